@@ -1,0 +1,4 @@
+pub mod Sides
+pub mod Headings
+pub mod Squares
+pub mod Slots

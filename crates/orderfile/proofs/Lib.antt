@@ -1,0 +1,4 @@
+pub mod Wording
+pub mod Writing
+pub mod RoundTrip
+pub mod Reading
