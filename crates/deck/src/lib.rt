@@ -2,7 +2,10 @@
 //
 // For: the floor's calls, which are proved over any deck. Promises: what steer and go answer and leave, in every
 // case, stands on the trait; specs/Decks.antt is the page to read. Rests on: grid.
+pub mod drive;
 pub mod fault;
+pub mod settled;
+pub mod turned;
 
 ghost use mathlib.Core.Path.{_≡_};
 ghost use Prim.Native.Nat.{ℕ, _<_, _≤_};

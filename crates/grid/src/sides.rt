@@ -47,6 +47,6 @@ impl Sides {
     pub fn slots(self) -> usize
         ensures { λ r. ⌜ r ≡ slot-count (self .height) (self .width) ⌝ }
     {
-        3 * self.height * self.width
+        self.rows() * self.width
     }
 }

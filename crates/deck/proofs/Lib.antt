@@ -1,0 +1,4 @@
+pub mod Numbering
+pub mod Turning
+pub mod Driving
+pub mod Settling

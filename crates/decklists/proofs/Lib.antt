@@ -1,0 +1,5 @@
+pub mod Placing
+pub mod Noting
+pub mod Moving
+pub mod Keeping
+pub mod Starting

@@ -1,0 +1,4 @@
+pub mod Runs
+pub mod Motions
+pub mod Plans
+pub mod Carrying
