@@ -1,0 +1,10 @@
+pub mod Counting
+pub mod Blocks
+pub mod Unique
+pub mod Regularity
+pub mod Lines
+pub mod Reaching
+pub mod Choosing
+pub mod Rotation
+pub mod Phases
+pub mod Places

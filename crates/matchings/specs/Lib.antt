@@ -1,0 +1,5 @@
+pub mod Matchings
+pub mod Regular
+pub mod Theorems
+pub mod Reaching
+pub mod Placing
