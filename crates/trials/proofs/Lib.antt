@@ -1,1 +1,5 @@
 pub mod OneCell
+pub mod Checks
+pub mod Matchings
+pub mod NewFloors
+pub mod Trials

@@ -13,15 +13,14 @@ use Rattle.deck.specs.declared.fault.DeckFault.the-variants.{OffFloor, SharedSq
 use Rattle.deck.specs.Decks.{DeckView, end, RemainsAt, Exchanges, Lawful, GoRefused, Went}
 use Rattle.deck.proofs.Settling.{settled}
 use Rattle.trials.specs.OneCell.{steered}
-use Rattle.trials.specs.Trials.{Trials}
 
 -- The law settles the answer.
 
-only-ok : (v : DeckView) → v .ready ≡ true → Lawful v → (r : Result (Unit {0}) DeckFault) (w : DeckView) → Went v r w → r ≡ Ok tt
+pub only-ok : (v : DeckView) → v .ready ≡ true → Lawful v → (r : Result (Unit {0}) DeckFault) (w : DeckView) → Went v r w → r ≡ Ok tt
 only-ok v t l (Ok u) w h = refl
 only-ok v t l (Err f) w (y, m) = absurd (settled .never-both v f y t l)
 
-only-err : (v : DeckView) (f : DeckFault) → GoRefused v f → (r : Result (Unit {0}) DeckFault) (w : DeckView) → Went v r w → r ≡ Err f
+pub only-err : (v : DeckView) (f : DeckFault) → GoRefused v f → (r : Result (Unit {0}) DeckFault) (w : DeckView) → Went v r w → r ≡ Err f
 only-err v f y (Ok u) w (t, l, m) = absurd (settled .never-both v f y t l)
 only-err v f y (Err g) w (z, m) = ap Err (settled .one-refusal v g f z y)
 
@@ -42,7 +41,7 @@ pairs P a b c (suc zero) (suc (suc zero)) l h = c
 pairs P a b c (suc (suc j)) (suc (suc zero)) l h = absurd (omega arith)
 pairs P a b c j (suc (suc (suc k))) l h = absurd (omega arith)
 
-following : Lawful (steered (Down ∷ Down ∷ Left ∷ []))
+pub following : Lawful (steered (Down ∷ Down ∷ Left ∷ []))
 following =
     let v = steered (Down ∷ Down ∷ Left ∷ []) in
     record {
@@ -51,7 +50,7 @@ following =
       pass = pairs (λ j k. Exchanges v j k → ⊥) (λ x. omega (arith, ap (λ (u : Square). u .row) (x .1))) (λ x. omega (arith, ap (λ (u : Square). u .row) (x .0))) (λ x. omega (arith, ap (λ (u : Square). u .row) (x .1)));
     }
 
-exchange : GoRefused (steered (Down ∷ Up ∷ [])) Exchange
+pub exchange : GoRefused (steered (Down ∷ Up ∷ [])) Exchange
 exchange =
     let v = steered (Down ∷ Up ∷ []) in (
       refl,
@@ -60,16 +59,8 @@ exchange =
       (0, 1, omega arith, omega arith, (refl, refl)),
     )
 
-shared : GoRefused (steered (Down ∷ [])) SharedSquare
+pub shared : GoRefused (steered (Down ∷ [])) SharedSquare
 shared = (refl, each (RemainsAt (steered (Down ∷ []))) (omega arith) tt tt, (0, 1, omega arith, omega arith, refl))
 
-off-floor : GoRefused (steered (Up ∷ [])) OffFloor
+pub off-floor : GoRefused (steered (Up ∷ [])) OffFloor
 off-floor = (refl, (0, omega arith, λ h. omega arith))
-
-pub trials : Trials
-trials = record {
-  following-is-accepted = record { lawful = following; only-answer = only-ok _ refl following };
-  exchange-is-refused = record { fits = exchange; only-answer = only-err _ Exchange exchange };
-  entering-a-taken-square-is-refused = record { fits = shared; only-answer = only-err _ SharedSquare shared };
-  leaving-the-floor-is-refused = record { fits = off-floor; only-answer = only-err _ OffFloor off-floor };
-}

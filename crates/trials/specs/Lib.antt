@@ -1,2 +1,3 @@
 pub mod OneCell
+pub mod NewFloors
 pub mod Trials

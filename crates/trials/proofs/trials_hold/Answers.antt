@@ -1,4 +1,4 @@
-use Rattle.trials.proofs.OneCell.{trials}
+use Rattle.trials.proofs.Trials.{trials}
 use Rattle.trials.proofs.trials_hold.Needs as need
 
 pub returns : need.returns

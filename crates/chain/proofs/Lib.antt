@@ -1,0 +1,4 @@
+pub mod PlanFacts
+pub mod Decked
+pub mod Fitting
+pub mod Keeping

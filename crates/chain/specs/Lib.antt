@@ -1,0 +1,6 @@
+pub mod Faults
+pub mod Floors
+pub mod Calls
+pub mod Sheets
+pub mod Chains
+pub mod Promises

@@ -1,0 +1,4 @@
+pub mod Routes
+pub mod Stages
+pub mod Furthest
+pub mod Upright

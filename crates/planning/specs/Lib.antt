@@ -1,0 +1,4 @@
+pub mod Assignments
+pub mod MiddleRows
+pub mod Planned
+pub mod Theorems
