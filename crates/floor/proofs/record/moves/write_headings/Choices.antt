@@ -1,0 +1,14 @@
+use mathlib.Core.Path.{_≡_}
+use Prim.Native.Nat.{ℕ, _<_}
+use lib.ListN.{length, getD}
+use Rattle.grid.specs.declared.heading.Heading.the-variants.{Stay}
+use Rattle.course.specs.Routes.{plan-of}
+use Rattle.course.specs.Stages.{motion-of}
+use Rattle.floor.specs.Moving.{way-heading}
+use Rattle.floor.proofs.record.moves.write_headings.Given as given
+
+abbrev pub Inv-loop-c : given.InvT-loop-c
+Inv-loop-c l =
+    (h w k : ℕ)
+    → k < l .c
+    → getD (l .headings) k Stay ≡ way-heading (l .way) (motion-of (l .stage) (plan-of h w (l .routes)) .heading (l .progress) k)
