@@ -22,7 +22,7 @@ pub enum AnyDeck {
 }
 
 // A new deck of a kind, if there is such a kind.
-pub fn make(
+pub(crate) fn make(
     heap: Global,
     kind: &str,
     height: usize,
@@ -68,7 +68,7 @@ fn with_contact(mut board: Board, closed: bool) -> Board {
 }
 
 // The deck with its contact opened or closed; other decks have none.
-pub fn contacted(deck: AnyDeck, closed: bool) -> AnyDeck {
+pub(crate) fn contacted(deck: AnyDeck, closed: bool) -> AnyDeck {
     match deck {
         AnyDeck::OfBoard(board) => AnyDeck::OfBoard(with_contact(board, closed)),
         AnyDeck::TurnedBoard(turned) => {

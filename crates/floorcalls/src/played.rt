@@ -263,7 +263,7 @@ fn on_deck(
 }
 
 // What a call answers.
-pub fn answer(
+pub(crate) fn answer(
     heap: Global,
     line: &str,
     deck: &mut Option<AnyDeck>,

@@ -2,12 +2,12 @@
 use std::alloc::AllocError;
 use std::alloc::Global;
 
-pub fn number(word: &str) -> Option<usize> {
+pub(crate) fn number(word: &str) -> Option<usize> {
     word.parse::<usize>().ok()
 }
 
 // Two numbers with a space between.
-pub fn two(words: &str) -> Option<(usize, usize)> {
+pub(crate) fn two(words: &str) -> Option<(usize, usize)> {
     let (first, second) = words.split_once(' ')?;
     let first = number(first)?;
     let second = number(second)?;
@@ -15,7 +15,7 @@ pub fn two(words: &str) -> Option<(usize, usize)> {
 }
 
 // The numbers of a list; none where a word is no number of 16 bits.
-pub fn entries(heap: Global, words: &str) -> Result<Option<Vec<u16>>, AllocError> {
+pub(crate) fn entries(heap: Global, words: &str) -> Result<Option<Vec<u16>>, AllocError> {
     let mut list = Vec::new(heap);
     for word in words.split_whitespace() {
         match word.parse::<u16>() {
@@ -27,7 +27,7 @@ pub fn entries(heap: Global, words: &str) -> Result<Option<Vec<u16>>, AllocError
 }
 
 // The numbers of a list; none where a word is no number of 8 bits.
-pub fn bytes(heap: Global, words: &str) -> Result<Option<Vec<u8>>, AllocError> {
+pub(crate) fn bytes(heap: Global, words: &str) -> Result<Option<Vec<u8>>, AllocError> {
     let mut list = Vec::new(heap);
     for word in words.split_whitespace() {
         match word.parse::<u8>() {
