@@ -82,23 +82,13 @@ module _ (h w : ℕ) (f : FloorView) (v : DeckView) (s : Sheet) (q : ℕ → Squ
   refused r marks (Ok n) g is c none = absurd (none (accepted_fillable r marks n g is))
   refused r marks (Err e) g is c none = ap Err (only_unfillable r marks e c is.0).0
 
-  order_not_astray : (r : RuleView) (marks : List ℕ) (e : FloorFault) → OrderRefused f v r marks e → e ≡ Astray → ⊥
-  order_not_astray r marks e (OrderRefused.astray a b d off) is = off x.stands
-  order_not_astray r marks e (OrderRefused.unfinished a) is = let z : ◌≡◌ {A = ℕ} 0 1 = cc in omega arith
-  order_not_astray r marks e (OrderRefused.few_marks a b) is = let z : ◌≡◌ {A = ℕ} 0 1 = cc in omega arith
-  order_not_astray r marks e (OrderRefused.dirty_marks a b d) is = let z : ◌≡◌ {A = ℕ} 0 1 = cc in omega arith
-  order_not_astray r marks e (OrderRefused.wrong_rule a b d k l) is = let z : ◌≡◌ {A = ℕ} 0 1 = cc in omega arith
-  order_not_astray r marks e (OrderRefused.unfillable a b d k l m) is = let z : ◌≡◌ {A = ℕ} 0 1 = cc in omega arith
-
-  step_not_astray : (u : DeckView) (e : FloorFault) → StepRefused f v u e → e ≡ Astray → ⊥
-  step_not_astray u e (StepRefused.astray a off b) is = off x.stands
-  step_not_astray u e (StepRefused.no_next_move a b) is = let z : ◌≡◌ {A = ℕ} 0 1 = cc in omega arith
-  step_not_astray u e (StepRefused.go_refused a b d k) is = let z : ◌≡◌ {A = ℕ} 0 1 = cc in omega arith
-
-  back_not_astray : (u : DeckView) (e : FloorFault) → BackRefused f v u e → e ≡ Astray → ⊥
-  back_not_astray u e (BackRefused.astray a off b) is = off x.stands
-  back_not_astray u e (BackRefused.no_last_move a b) is = let z : ◌≡◌ {A = ℕ} 0 1 = cc in omega arith
-  back_not_astray u e (BackRefused.go_refused a b d k) is = let z : ◌≡◌ {A = ℕ} 0 1 = cc in omega arith
+  not_astray : (r : RuleView) (marks : List ℕ) (e : FloorFault) → OrderRefused f v r marks e → e ≡ Astray → ⊥
+  not_astray r marks e (OrderRefused.astray a b d off) is = off x.stands
+  not_astray r marks e (OrderRefused.unfinished a) is = let z : ◌≡◌ {A = ℕ} 0 1 = cc in omega arith
+  not_astray r marks e (OrderRefused.few_marks a b) is = let z : ◌≡◌ {A = ℕ} 0 1 = cc in omega arith
+  not_astray r marks e (OrderRefused.dirty_marks a b d) is = let z : ◌≡◌ {A = ℕ} 0 1 = cc in omega arith
+  not_astray r marks e (OrderRefused.wrong_rule a b d k l) is = let z : ◌≡◌ {A = ℕ} 0 1 = cc in omega arith
+  not_astray r marks e (OrderRefused.unfillable a b d k l m) is = let z : ◌≡◌ {A = ℕ} 0 1 = cc in omega arith
 
   -- Moves.
 
@@ -256,9 +246,7 @@ module _ (h w : ℕ) (f : FloorView) (v : DeckView) (s : Sheet) (q : ℕ → Squ
       record {
         filled_if_fillable = λ r marks answer g is c m. filled r marks answer g is (checks c) m;
         refused_if_unfillable = λ r marks answer g is c none. refused r marks answer g is (checks c) none;
-        never_astray_in_order = λ r marks g is. order_not_astray r marks Astray is.0 refl;
-        never_astray_in_step = λ g u is. step_not_astray u Astray is.0 refl;
-        never_astray_in_back = λ g u is. back_not_astray u Astray is.0 refl;
+        never_astray = λ r marks g is. not_astray r marks Astray is.0 refl;
         never_two_on_a_square = x.sound;
         never_an_exchange_in_step = step_apart;
         never_an_exchange_in_back = back_apart;

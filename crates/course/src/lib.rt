@@ -1,4 +1,5 @@
-// The course of a plan in code: how long its stages last, and where each carrier is and is headed in each step.
+// The course of a plan in code: how long its stages last, and where each carrier is and is headed in each step, forth
+// and back.
 //
 // For: the floor's calls, which steer and check carriers by it. Promises: each function answers what the motion
 // that carries the plan out says (specs/Stages.antt ties the code's stages to that motion). No call allocates, and

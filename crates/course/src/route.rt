@@ -1,12 +1,13 @@
 ghost use Rattle.std.specs.Prelude.{◌≡◌, ℕ, ◌+◌, ◌*◌, ◌/◌, ◌%◌};
+ghost use Rattle.grid.specs.Headings.{opposite};
 ghost use Rattle.motion.specs.Runs.{turn_heading};
-ghost use Rattle.motion.specs.Plans.{Plan};
+ghost use Rattle.motion.specs.Plans.{Plan, whole};
 ghost use Rattle.course.specs.Routes.{HasRoute};
-ghost use Rattle.course.specs.Stages.{motion_of};
+ghost use Rattle.course.specs.Stages.{motion_of, Staged};
 ghost use Rattle.course.specs.Upright.{run_from, run_to};
 
 use crate::run::{Run, turn_square};
-use crate::stage::Stage;
+use crate::stage::{Stage, Stages};
 use grid::heading::Heading;
 use grid::slot::Slot;
 use grid::square::Square;
@@ -37,6 +38,13 @@ impl Route {
         stage.on_deck(upright)
     }
 
+    // The heading that undoes the step which the carrier makes in a stage after `progress` steps of it.
+    pub fn heading_back(&self, stage: Stage, progress: usize) -> Heading
+        ensures { (p : Plan) (c : ℕ) → HasRoute p c self.now → result ≡ opposite ((motion_of stage p).heading progress c) }
+    {
+        self.heading(stage, progress).opposite()
+    }
+
     // The carrier's square in a stage, after `progress` steps of it.
     pub fn place(&self, stage: Stage, progress: usize) -> Square
         ensures { (p : Plan) (c : ℕ) → HasRoute p c self.now → result ≡ (motion_of stage p).place progress c }
@@ -52,6 +60,30 @@ impl Route {
             ).turned(),
             Stage::LastColumns => self.last_columns().square(self.goal.bay, progress),
         }
+    }
+
+    // The carrier's heading after `step` steps of the plan with these stages.
+    pub fn heading_at(&self, stages: &Stages, step: usize) -> Heading
+        ensures { (p : Plan) (c : ℕ) → HasRoute p c self.now → Staged p stages.now → result ≡ (whole p).heading step c }
+    {
+        let (stage, made) = stages.at(step);
+        self.heading(stage, made)
+    }
+
+    // The heading that undoes the step which the carrier makes after `step` steps of the plan with these stages.
+    pub fn heading_back_at(&self, stages: &Stages, step: usize) -> Heading
+        ensures { (p : Plan) (c : ℕ) → HasRoute p c self.now → Staged p stages.now → result ≡ opposite ((whole p).heading step c) }
+    {
+        let (stage, made) = stages.at(step);
+        self.heading_back(stage, made)
+    }
+
+    // The carrier's square after `step` steps of the plan with these stages.
+    pub fn place_at(&self, stages: &Stages, step: usize) -> Square
+        ensures { (p : Plan) (c : ℕ) → HasRoute p c self.now → Staged p stages.now → result ≡ (whole p).place step c }
+    {
+        let (stage, made) = stages.at(step);
+        self.place(stage, made)
     }
 
     // The stage's run, seen upright; in a turn there is none, so nowhere to go.

@@ -1,8 +1,6 @@
 // Reads relations as text from standard input, one after another, and prints a line for each: the right members of its
 // first perfect matching, or `none`. Where the input is not such text it prints `malformed` and stops.
-ghost use Rattle.std.specs.Prelude.{◌+◌, ◌*◌, ◌≤◌, length};
-
-use matchingtext::{Sheet, sheet_at, solve};
+use matchingtext::{TextTable, sheet_at, solve};
 use std::alloc::{AllocError, Global};
 use std::io;
 use std::io::Read;
@@ -20,11 +18,9 @@ fn spaced(heap: Global, numbers: &[usize]) -> Result<String, AllocError> {
     Ok(line)
 }
 
-// The line for a relation, by its rows.
-fn answer(heap: Global, rows: &[u8], count: usize) -> Result<String, AllocError>
-    requires { count * (count + 1) ≤ length rows.now }
-{
-    match solve(heap, rows, count)? {
+// The line for a relation.
+fn answer(heap: Global, table: &TextTable) -> Result<String, AllocError> {
+    match solve(heap, table)? {
         Some(mate) => spaced(heap, &mate),
         None => String::from_str(heap, "none"),
     }
@@ -37,9 +33,9 @@ fn run(rt: HostRuntime, text: &[u8]) -> io::Result<()> {
         let Some(sheet) = sheet_at(text, at) else {
             return println!(rt; "malformed");
         };
-        let Sheet { count, from, to } = sheet;
-        rt.println(answer(rt.alloc(), &text[from..to], count)?)?;
-        at = to;
+        let table = TextTable::new(&text[sheet.from..sheet.to], sheet.count);
+        rt.println(answer(rt.alloc(), &table)?)?;
+        at = sheet.to;
     }
     Ok(())
 }

@@ -1,10 +1,9 @@
 ghost use Rattle.std.specs.Prelude.{◌≡◌, ℕ, ◌+◌, ◌<◌, ◌≤◌, length};
 ghost use Rattle.matchings.specs.Matchings.{◌!◌};
-ghost use Rattle.matchings.specs.Reaching.{Clear, Beyond, loose, Inj, Lined, Movable, Same, Reached, Closed, Ended, Joins, Added};
+ghost use Rattle.matchings.specs.Reaching.{Clear, Beyond, loose, Inj, Lined, Movable, Same, Reached, Closed, Ended, Joins};
 ghost use Rattle.matching.specs.WorkLists.{members_of, parents_of, Room, SameRoom};
 
 use crate::relation::{Relation, may};
-use crate::ticks::clear;
 use crate::work_list::WorkList;
 
 // What the search for one left member goes by: members from `wild` on allow everything, those below `fixed` keep what they
@@ -56,7 +55,6 @@ pub fn visit<R: Relation>(
     requires closed { Closed (loose (R.Relation.allowed rel.now) quest.wild) movable mate.now (members_of work.old) marks.old head }
     ensures movable { Movable (length mate.now) quest.fixed movable (members_of work.new) }
     ensures same { Same movable (members_of work.old) (members_of work.new) }
-    ensures front { (k : ℕ) → k < count → members_of work.new ! k ≡ members_of work.old ! k }
     ensures reached { Reached (loose (R.Relation.allowed rel.now) quest.wild) (length mate.now) quest.fixed quest.left mate.now (members_of work.new) (parents_of work.new) marks.new result }
     ensures closed { Closed (loose (R.Relation.allowed rel.now) quest.wild) movable mate.now (members_of work.new) marks.new (head + 1) }
     ensures ahead { (count ≤ result) × (result ≤ movable) }
@@ -99,21 +97,8 @@ fn find<R: Relation>(
     None
 }
 
-// Notes a class; whether it was not noted before. One past the end of the notes always passes for new.
-fn note(seen: &mut [u8], class: usize) -> bool
-    ensures { Added class seen.old seen.new result }
-{
-    if class >= seen.len() {
-        return true;
-    }
-    let fresh = seen[class] == 0;
-    seen[class] = 1;
-    fresh
-}
-
 // Those that come to `left` by such steps, `left` first, until `goal` is among them; the right members that they have are
-// ticked. How many they are. Where a right member of the same class was visited before, all who allow it are there already:
-// the classes visited are noted in `seen`.
+// ticked. How many they are.
 pub fn reach<R: Relation>(
     rel: &R,
     quest: Quest,
@@ -121,7 +106,6 @@ pub fn reach<R: Relation>(
     movable: usize,
     mate: &[usize],
     marks: &mut [u8],
-    seen: &mut [u8],
     work: &mut WorkList,
 ) -> usize
     requires size { (length mate.now ≡ R.Relation.size rel.now) × (length mate.now ≤ length marks.old) }
@@ -136,7 +120,6 @@ pub fn reach<R: Relation>(
     ensures rest { Beyond (length mate.now) marks.old marks.new }
     ensures room { SameRoom work.old work.new }
 {
-    clear(seen, seen.len());
     marks[mate[quest.left]] = 1;
     let mut asked = 0;
     let mut head = 0;
@@ -148,9 +131,7 @@ pub fn reach<R: Relation>(
             return tail + 1;
         }
         asked = tail;
-        if note(seen, rel.class(mate[work.member(head)])) {
-            tail = visit(rel, quest, movable, mate, head, tail, marks, work);
-        }
+        tail = visit(rel, quest, movable, mate, head, tail, marks, work);
         head += 1;
     }
     tail

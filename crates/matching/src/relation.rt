@@ -1,5 +1,5 @@
 ghost use Rattle.std.specs.Prelude.{◌≡◌, ℕ, ◌<◌, Bool};
-ghost use Rattle.matchings.specs.Reaching.{loose, Alike};
+ghost use Rattle.matchings.specs.Reaching.{loose};
 
 // Which right members each left member allows, of as many of the one as of the other.
 pub trait Relation {
@@ -7,19 +7,9 @@ pub trait Relation {
 
     ghost allowed: { Self → ℕ → ℕ → Bool };
 
-    // The class of each right member. One number each is always right; the fewer classes, the faster the search.
-    ghost classes: { Self → ℕ → ℕ };
-
-    // Right members of one class are allowed by the same left members.
-    ghost alike: { (rel : Self) → Alike (allowed rel) (size rel) (classes rel) };
-
     fn allows(&self, left: usize, right: usize) -> bool
         requires { (left < size self.now) × (right < size self.now) }
         ensures { result ≡ allowed self.now left right };
-
-    fn class(&self, right: usize) -> usize
-        requires { right < size self.now }
-        ensures { result ≡ classes self.now right };
 }
 
 // Whether `left` may have `right`, where those from `wild` on, not settled yet, may have any.

@@ -1,9 +1,9 @@
 // Compares the search with brute force for every relation of one to four members: brute force goes through all lists of
-// right members in dictionary order, and takes the first one that is a perfect matching.
+// right members in dictionary order, and takes the first one that is a perfect matching. The marks must come back clear.
 ghost use Rattle.std.specs.Prelude.{◌≡◌, ◌+◌, ◌*◌, ◌<◌, ◌≤◌, length};
+ghost use Rattle.matchings.specs.Reaching.{Clear};
 
-use matchingtext::solve;
-use std::alloc::{AllocError, Global};
+use matchingtext::{TextTable, first_in};
 use std::io;
 
 const MOST: usize = 4;
@@ -72,41 +72,73 @@ fn brute(cells: &[u8], n: usize, rights: &mut [usize]) -> bool
     false
 }
 
-// What came of one relation: whether the search answers what brute force finds, and whether there is a perfect matching.
+// What came of one relation: whether the search answers what brute force finds and leaves the marks clear, and whether
+// there is a perfect matching.
 #[derive(Clone, Copy)]
 struct Trial {
     agrees: bool,
     fillable: bool,
 }
 
+fn all_zero(marks: &[u8]) -> bool {
+    for mark in marks {
+        if *mark != 0 {
+            return false;
+        }
+    }
+    true
+}
+
 fn same_lists(a: &[usize], b: &[usize]) -> bool {
     a == b
 }
 
-// One relation; `expected` is for brute force.
+// One relation, by tables that are lent; `expected` is brute force's.
 fn compare(
-    heap: Global,
     cells: &[u8],
     n: usize,
     expected: &mut [usize],
-) -> Result<Trial, AllocError>
-    requires { (0 < n) × (n * (n + 1) ≤ length cells.now) }
+    mate: &mut [usize],
+    block: &mut [usize],
+    marks: &mut [u8],
+    members: &mut [usize],
+    parents: &mut [usize],
+) -> Trial
+    requires size { (0 < n) × ((n * (n + 1) ≤ length cells.now) × ((length mate.old ≡ n) × (length block.old ≡ n))) }
+    requires room { (n ≤ length marks.old) × ((n ≤ length members.old) × (n ≤ length parents.old)) }
+    requires clear { Clear marks.old n }
 {
     let fillable = brute(cells, n, expected);
-    let agrees = match solve(heap, cells, n)? {
-        Some(mate) => fillable && same_lists(&mate, expected),
-        None => !fillable,
-    };
-    Ok(Trial { agrees, fillable })
+    let table = TextTable::new(cells, n);
+    let found = first_in(&table, mate, block, marks, members, parents);
+    let same = found == fillable && (!found || same_lists(mate, expected));
+    Trial {
+        agrees: same && all_zero(marks),
+        fillable,
+    }
 }
 
-fn try_one(heap: Global, number: u32, n: usize) -> Result<Trial, AllocError>
+fn try_one(number: u32, n: usize) -> Trial
     requires { (0 < n) × (n ≤ 4) }
 {
     let mut cells = [b'\n'; CELLS];
     let mut expected = [0usize; MOST];
+    let mut mate = [0usize; MOST];
+    let mut block = [0usize; MOST];
+    let mut marks = [0u8; MOST];
+    let mut members = [0usize; MOST];
+    let mut parents = [0usize; MOST];
     write_cells(number, n, &mut cells);
-    compare(heap, &cells, n, &mut expected[0..n])
+    compare(
+        &cells,
+        n,
+        &mut expected[0..n],
+        &mut mate[0..n],
+        &mut block[0..n],
+        &mut marks,
+        &mut members,
+        &mut parents,
+    )
 }
 
 // All relations of n members.
@@ -115,7 +147,7 @@ fn try_all(rt: HostRuntime, n: usize, relations: u32) -> io::Result<()>
 {
     let mut fillable = 0u32;
     for number in 0..relations {
-        let trial = try_one(rt.alloc(), number, n)?;
+        let trial = try_one(number, n);
         if !trial.agrees {
             return println!(rt; "n {n}: relation {number} is not as brute force finds");
         }

@@ -8,4 +8,3 @@ pub mod Choosing
 pub mod Rotation
 pub mod Phases
 pub mod Places
-pub mod Shortcuts

@@ -66,19 +66,6 @@ pub record Reached (A : ℕ → ℕ → Bool) (n fixed left : ℕ) (mate members
 abbrev pub Closed : (A : ℕ → ℕ → Bool) (m : ℕ) (mate members marks : List ℕ) (head : ℕ) → Type 0
 Closed A m mate members marks head = (k j : ℕ) → k < head → j < m → A (members ! j) (mate ! (members ! k)) ≡ true → 0 < marks ! (mate ! (members ! j))
 
--- right members of one class are allowed by the same left members
-abbrev pub Alike : (A : ℕ → ℕ → Bool) (n : ℕ) (class : ℕ → ℕ) → Type 0
-Alike A n class = (l r s : ℕ) → l < n → r < n → s < n → class r ≡ class s → A l r ≡ A l s
-
--- a class is noted only where one of the first `head` members has a right member of it
-abbrev pub Noted : (class : ℕ → ℕ) (mate members : List ℕ) (head : ℕ) (seen : List ℕ) → Type 0
-Noted class mate members head seen = (c : ℕ) → 0 < seen ! c → (k : ℕ) × (k < head) × (class (mate ! (members ! k)) ≡ c)
-
--- the class is noted, if there is room for it; it is fresh unless it was noted before
-pub record Added (class : ℕ) (old new : List ℕ) (fresh : Bool) : Type 0 where
-  pub known : fresh ≡ false → 0 < old ! class
-  pub only : (c : ℕ) → 0 < new ! c → (c ≡ class) ⊎ (0 < old ! c)
-
 -- all that can be reached among the members of `line` is
 pub record Exhausted (A : ℕ → ℕ → Bool) (n fixed m : ℕ) (mate line members marks : List ℕ) (tail : ℕ) : Type 0 where
   pub closed : Closed A m mate members marks tail

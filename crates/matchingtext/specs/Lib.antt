@@ -1,4 +1,3 @@
 pub mod Sheets
-pub mod Classes
 pub mod Pages
 pub mod Solutions

@@ -3,10 +3,10 @@
 // A relation is a line with its size n, then n lines of n characters 0 and 1, left members down and right members across.
 // The reading functions answer exactly what specs/Sheets says is there; `solve` answers the first perfect matching. Some of
 // the functions ask what their `requires` says: they are offered to the programs only. It rests on the crate `matching`.
-mod classes;
 mod reading;
 mod solving;
 mod table;
 
 pub use reading::{Sheet, sheet_at};
-pub use solving::solve;
+pub use solving::{first_in, solve};
+pub use table::TextTable;

@@ -14,9 +14,9 @@ use Rattle.course.specs.declared.route.Route.{Route}
 use Rattle.course.specs.Routes.{nowhere, route_at}
 use Rattle.planning.specs.MiddleRows.{allows, Round}
 use Rattle.planning.proofs.Slots.{slots_of}
-use Rattle.planning.proofs.Rounds.{SameEnds as SamePlanEnds, Agree, first_agree, perfect_moved, first_moved, first_below, round_agree, regular_counts, none_left}
+use Rattle.planning.proofs.Rounds.{SameEnds as SamePlanEnds, Agree, first_agree, waiting_agree, perfect_moved, first_moved, first_below, round_agree, regular_counts, none_left}
 use Rattle.plan.specs.Routes.{plan_on, SameEnds}
-use Rattle.plan.specs.Rows.{middle_of, route_waits, waiting_routes, Tallied, Lowest, Gave, Unplaced, Whole, FirstRows}
+use Rattle.plan.specs.Rows.{middle_of, route_waits, waiting_routes, Tallied, LowRows, Lowest, Gave, Unplaced, Whole, FirstRows}
 
 abbrev start_row_of : List Route → ℕ → ℕ
 start_row_of rs c = (route_at rs c).start.row
@@ -79,49 +79,30 @@ given_none a k goals fresh =
       taken = λ i l. absurd (omega arith);
     }
 
+pub given_low : (a b : List Route) → SameEnds a b → LowRows a → LowRows b
+given_low a b E h c l =
+    let z = E.long in
+    let x = h c (omega arith) in
+    let y = ap (λ (s : Slot). s.row) (E.start c) in
+    omega arith
+
 given_agree :
     (s : Sides) (a b : List Route) (k : ℕ)
     → ((c : ℕ) → c < length a → (middle_of b c ≡ middle_of a c) ⊎ ((k ≤ middle_of a c) × (middle_of b c ≡ k)))
     → Agree (plan_on s a) (plan_on s b) k
 given_agree s a b k h c l = ⊎_elim (λ e. inl (sym e)) (λ p. inr (p.0, let z = p.1 in omega arith)) (h c l)
 
--- who waits is the same before and after
-waits_same :
-    (a b : List Route) (k : ℕ) (goals : List ℕ) (i : ℕ)
-    → Given a b k goals i
-    → (j g d : ℕ)
-    → d < length a
-    → route_waits k j g (route_at b d) ≡ route_waits k j g (route_at a d)
-waits_same a b k goals i G j g d l =
-    ap (λ (x : ℕ). eqb x j && (eqb (goal_bay_of b d) g && leb k (middle_of b d))) (ap (λ (s : Slot). s.bay) (G.ends.start d))
-    ∙ ap (λ (x : ℕ). eqb (start_bay_of a d) j && (eqb x g && leb k (middle_of b d))) (ap (λ (s : Slot). s.bay) (G.ends.goal d))
-    ∙ ap (λ (x : Bool). eqb (start_bay_of a d) j && (eqb (goal_bay_of a d) g && x))
-    (⊎_elim (ap (λ (m : ℕ). leb k m)) (λ p. let z = p.1 in le-leb k (middle_of b d) (omega arith) ∙ sym (le-leb k (middle_of a d) p.0)) (G.changed d l))
-
--- and so is who of them has the lowest start row
-pub lowest_same :
-    (a b : List Route) (k : ℕ) (goals : List ℕ) (i j g c : ℕ) → Given a b k goals i → Lowest a k j g c → Lowest b k j g c
-lowest_same a b k goals i j g c G L =
-    let long = G.ends.long in
-    let row : (d : ℕ) → start_row_of b d ≡ start_row_of a d = λ d. ap (λ (s : Slot). s.row) (G.ends.start d) in
-    record {
-      here = let z = L.here in omega arith;
-      waits = waits_same a b k goals i G j g c L.here ∙ L.waits;
-      least = λ d l t.
-          let d-in : d < length a = omega arith in
-          let z = L.least d d-in (sym (waits_same a b k goals i G j g d d-in) ∙ t) in
-          let x = row c in
-          let y = row d in
-          omega arith;
-    }
-
 -- one waits for each pair of the matching
-pub waits_matched :
-    (s : Sides) (a : List Route) (k : ℕ) (goals : List ℕ) (j : ℕ)
+pub still_waits :
+    (s : Sides) (a b : List Route) (k : ℕ) (goals : List ℕ) (j : ℕ)
+    → Given a b k goals j
     → Perfect (allows (plan_on s a) k) s.width goals
     → j < s.width
-    → 0 < waiting_routes a (length a) k j (goals ! j)
-waits_matched s a k goals j F l = ltb-true 0 (waiting_routes a (length a) k j (goals ! j)) (F.allowed j l)
+    → 0 < waiting_routes b (length b) k j (goals ! j)
+still_waits s a b k goals j G F l =
+    let x = ltb-true 0 (waiting_routes a (length a) k j (goals ! j)) (F.allowed j l) in
+    let y = waiting_agree (plan_on s a) (plan_on s b) (plan_ends s a b G.ends) k k (given_agree s a b k G.changed) (omega arith) j (goals ! j) in
+    omega arith
 
 module _ (a b : List Route) (k : ℕ) (goals : List ℕ) (j : ℕ) (G : Given a b k goals j) (c : ℕ) (L : Lowest b k j (get_or goals j 0) c) where
   abbrev new : Route

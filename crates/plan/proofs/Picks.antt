@@ -1,15 +1,20 @@
 -- The lowest so far, and counts by bay so far.
 use Rattle.std.proofs.Common.{◌≡◌, ℕ, ◌+◌, ◌*◌, ◌<◌, ◌≤◌, Bool, true, false, cond, ◌&&◌, eqb, leb, ◌⊎◌, List, length, get_or, set, sym, refl, ap, ◌∙◌, subst, inl, inr, ⊎_elim, arith, get_or-set_other, get_or-set_same}
-use Rattle.std.proofs.lemmas.Bool.{cases_eq, and_from, and_left, and_right, eq-eqb, ne_eqb, le-leb, lt-leb, eqb-true, and_parts}
+use Rattle.std.proofs.lemmas.Bool.{cases_eq, and_from, and_left, and_right, eq-eqb, ne_eqb, le-leb, lt-leb}
 use Rattle.course.specs.declared.route.Route.{Route}
 use Rattle.course.specs.Routes.{route_at}
 use Rattle.planning.proofs.Slots.{cell_same}
 use Rattle.planning.proofs.Counts.{count_some, count_more}
-use Rattle.plan.specs.Rows.{route_waits, waiting_routes, Tallied, LowRows, BaysBelow, Lowest, Pick, AllPicked}
+use Rattle.plan.specs.Rows.{route_waits, waiting_routes, Tallied, LowRows, Lowest}
+
+-- of the first n that pass, `best` has the lowest row, `least`; `least` is 255 where none passes
+pub record Pick (pass : ℕ → Bool) (row : ℕ → ℕ) (n best least : ℕ) : Type 0 where
+  pub low : (d : ℕ) → d < n → pass d ≡ true → least ≤ row d
+  pub is : (least ≡ 255) ⊎ ((best < n) × (pass best ≡ true) × (row best ≡ least))
 
 module _ (pass : ℕ → Bool) (row : ℕ → ℕ) where
-  pub pick_none : (best : ℕ) → Pick pass row 0 best 255
-  pick_none best = record { low = λ d h. absurd (omega arith); is = inl refl }
+  pub pick_none : Pick pass row 0 0 255
+  pick_none = record { low = λ d h. absurd (omega arith); is = inl refl }
 
   pub pick_take : (n best least : ℕ) → Pick pass row n best least → pass n ≡ true → row n < least → Pick pass row (n + 1) n (row n)
   pick_take n best least P t l = record {
@@ -42,40 +47,6 @@ picked rs k j g n best least rows some e P =
       least = λ i l t. let x = P.low i (omega arith) t in let y = p.2 in omega arith;
     })
     P.is
-
--- the carrier c comes, which starts in bay b
-module _ (rs : List Route) (k : ℕ) (matching best least : List ℕ) (c : ℕ) (P : AllPicked rs c k matching best least) where
-  abbrev b : ℕ
-  b = (route_at rs c).start.bay
-
-  abbrev passes : ℕ → ℕ → Bool
-  passes j d = route_waits k j (get_or matching j 0) (route_at rs d)
-
-  abbrev row_of : ℕ → ℕ
-  row_of d = (route_at rs d).start.row
-
-  in_bay : (j : ℕ) → passes j c ≡ true → b ≡ j
-  in_bay j t = eqb-true b j (and_parts (eqb b j) (eqb (route_at rs c).goal.bay (get_or matching j 0) && leb k (route_at rs c).middle_row) t).0
-
-  -- it is no better for its bay, and none for the others
-  pub all_skip : (passes b c ≡ true → get_or least b 0 ≤ row_of c) → AllPicked rs (c + 1) k matching best least
-  all_skip h j l =
-      pick_skip (passes j) row_of c (get_or best j 0) (get_or least j 0) (P j l)
-      (λ t. subst (λ (x : ℕ). get_or least x 0 ≤ row_of c) (in_bay j t) (h (subst (λ (x : ℕ). passes x c ≡ true) (sym (in_bay j t)) t)))
-
-  -- it is the best for its bay
-  pub all_take : b < length matching → passes b c ≡ true → row_of c < get_or least b 0 → b < length best → b < length least
-      → AllPicked rs (c + 1) k matching (set best b c) (set least b (row_of c))
-  all_take inside t less lb ll j l = ⊎_elim
-      (λ e. subst (λ (x : ℕ). Pick (passes x) row_of (c + 1) (get_or (set best b c) x 0) (get_or (set least b (row_of c)) x 0)) (sym e)
-      (subst (λ (x : ℕ). Pick (passes b) row_of (c + 1) x (get_or (set least b (row_of c)) b 0)) (sym (get_or-set_same best b c 0 lb))
-      (subst (λ (x : ℕ). Pick (passes b) row_of (c + 1) c x) (sym (get_or-set_same least b (row_of c) 0 ll))
-      (pick_take (passes b) row_of c (get_or best b 0) (get_or least b 0) (P b inside) t less))))
-      (λ d.
-      subst (λ (x : ℕ). Pick (passes j) row_of (c + 1) x (get_or (set least b (row_of c)) j 0)) (sym (get_or-set_other best b j c 0 d))
-      (subst (λ (x : ℕ). Pick (passes j) row_of (c + 1) (get_or best j 0) x) (sym (get_or-set_other least b j (row_of c) 0 d))
-      (pick_skip (passes j) row_of c (get_or best j 0) (get_or least j 0) (P j l) (λ q. absurd (d (sym (in_bay j q)))))))
-      (cases_eq j b)
 
 module _ (rs : List Route) (k w c : ℕ) (counts : List ℕ) (inv : Tallied rs c k w counts) where
   abbrev sb : ℕ

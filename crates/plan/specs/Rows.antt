@@ -42,18 +42,6 @@ pub record Lowest (routes : List Route) (k j g c : ℕ) : Type 0 where
       → route_waits k j g (route_at routes d) ≡ true
       → (route_at routes c).start.row ≤ (route_at routes d).start.row
 
--- of the first n that pass, `best` has the lowest row, `least`; `least` is 255 where none passes
-pub record Pick (pass : ℕ → Bool) (row : ℕ → ℕ) (n best least : ℕ) : Type 0 where
-  pub low : (d : ℕ) → d < n → pass d ≡ true → least ≤ row d
-  pub is : (least ≡ 255) ⊎ ((best < n) × (pass best ≡ true) × (row best ≡ least))
-
--- the best so far of the waiting carriers of each bay that go to the bay that it is matched with
-abbrev pub AllPicked : List Route → (n k : ℕ) (matching best least : List ℕ) → Type 0
-AllPicked routes n k matching best least =
-    (j : ℕ)
-    → j < length matching
-    → Pick (λ c. route_waits k j (slice_index matching j) (route_at routes c)) (λ c. (route_at routes c).start.row) n (slice_index best j) (slice_index least j)
-
 -- row k is given out: who has it then waited, and all else is as it was
 pub record Gave (s : Sides) (a b : List Route) (k : ℕ) (matching : List ℕ) : Type 0 where
   pub ends : SameEnds a b

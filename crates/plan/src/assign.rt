@@ -33,16 +33,8 @@ impl<R: Rule> Relation for Admission<'_, R> {
 
     ghost allowed = { λ a. (R.Rule.meaning a.rule.now).admits };
 
-    ghost classes = { λ a. R.Rule.classes a.rule.now };
-
-    ghost alike = { λ a l r s _ _ _. R.Rule.alike a.rule.now l r s };
-
     fn allows(&self, left: usize, right: usize) -> bool {
         self.rule.admits(left, right)
-    }
-
-    fn class(&self, right: usize) -> usize {
-        self.rule.class(right)
     }
 }
 
@@ -79,7 +71,6 @@ fn assign_in<R: Rule>(
     assignment: &mut [usize],
     block: &mut [usize],
     marks: &mut [u8],
-    seen: &mut [u8],
     work: &mut WorkList,
 ) -> bool
     requires rule { (R.Rule.meaning rule.now).slots ≡ slot_count sides.height sides.width }
@@ -92,7 +83,7 @@ fn assign_in<R: Rule>(
     ensures marks { marks.new ≡ marks.old }
 {
     let admission = Admission::of(rule);
-    if let Matched::Blocked(_) = first_matching(&admission, assignment, block, marks, seen, work) {
+    if let Matched::Blocked(_) = first_matching(&admission, assignment, block, marks, work) {
         return false;
     }
     set_goals(routes, sides, assignment);
@@ -111,7 +102,6 @@ pub fn assign<R: Rule>(rule: &R, sides: Sides, routes: &mut [Route], marks: &mut
 {
     let mut assignment = [0; GREATEST_SLOTS];
     let mut block = [0; GREATEST_SLOTS];
-    let mut seen = [0; GREATEST_SLOTS];
     let mut members = [0; GREATEST_SLOTS];
     let mut parents = [0; GREATEST_SLOTS];
     let mut work = WorkList::over(&mut members, &mut parents);
@@ -123,7 +113,6 @@ pub fn assign<R: Rule>(rule: &R, sides: Sides, routes: &mut [Route], marks: &mut
         &mut assignment[..n],
         &mut block[..n],
         marks,
-        &mut seen,
         &mut work,
     )
 }

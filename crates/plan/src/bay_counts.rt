@@ -1,5 +1,4 @@
-ghost use Rattle.std.specs.Prelude.{◌≡◌, ℕ, ◌+◌, ◌*◌, ◌≤◌, Bool, ltb, length, nat_lt, slice_index};
-ghost use Rattle.std.proofs.Common.{ap};
+ghost use Rattle.std.specs.Prelude.{◌≡◌, ℕ, ◌+◌, ◌*◌, ◌≤◌, Bool, length, nat_lt, slice_index};
 
 use matching::Relation;
 
@@ -26,16 +25,7 @@ impl Relation for BayCounts<'_> {
 
     ghost allowed = { λ b start goal. nat_lt 0 (slice_index b.counts.now (start * b.bays + goal)) };
 
-    // each bay is a class by itself
-    ghost classes = { λ _ goal. goal };
-
-    ghost alike = { λ b start _ _ _ _ _. ap (λ goal. ltb 0 (slice_index b.counts.now (start * b.bays + goal))) };
-
     fn allows(&self, left: usize, right: usize) -> bool {
         self.counts[left * self.bays + right] != 0
-    }
-
-    fn class(&self, right: usize) -> usize {
-        right
     }
 }

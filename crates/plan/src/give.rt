@@ -1,11 +1,11 @@
-ghost use Rattle.std.specs.Prelude.{◌≡◌, ℕ, ◌<◌, ◌≤◌, length, ◌≢◌, slice_index};
+ghost use Rattle.std.specs.Prelude.{◌≡◌, ℕ, ◌<◌, ◌≤◌, length, ◌≢◌};
 ghost use Rattle.matchings.specs.Matchings.{Perfect};
 ghost use Rattle.planning.specs.MiddleRows.{allows};
 ghost use Rattle.plan.specs.Routes.{plan_on};
-ghost use Rattle.plan.specs.Rows.{middle_of, route_waits, BaysBelow, LowRows, AllPicked, Gave, Unplaced};
+ghost use Rattle.plan.specs.Rows.{middle_of, route_waits, waiting_routes, LowRows, Lowest, Gave, Unplaced};
 
 use course::route::Route;
-use grid::sides::{GREATEST_SIDE, Sides};
+use grid::sides::Sides;
 
 // Whether the carrier of a route goes from bay `start` to bay `goal`, and has no middle row below `row`.
 fn waits(route: &Route, row: u8, start: usize, goal: usize) -> bool
@@ -16,37 +16,32 @@ fn waits(route: &Route, row: u8, start: usize, goal: usize) -> bool
         && route.middle_row >= row
 }
 
-// For each bay, of the waiting carriers that go from it to the bay that it is matched with, the one with the lowest start row
-// into `best`, and that row into `least`.
-fn pick_lowest(routes: &[Route], row: u8, matching: &[usize], best: &mut [usize], least: &mut [u8])
-    requires size { (length matching.now ≤ length best.old) × (length matching.now ≤ length least.old) }
-    requires bays { BaysBelow (length matching.now) routes.now }
-    requires none { (j : ℕ) → j < length matching.now → slice_index least.old j ≡ 255 }
-    ensures { AllPicked routes.now (length routes.now) row matching.now best.new least.new }
+// The waiting carrier from `start` to `goal` with the lowest start row.
+fn lowest(routes: &[Route], row: u8, start: usize, goal: usize) -> usize
+    requires rows { LowRows routes.now }
+    requires some { 0 < waiting_routes routes.now (length routes.now) row start goal }
+    ensures { Lowest routes.now row start goal result }
 {
+    let mut best = 0;
+    let mut least = u8::MAX;
     for c in 0..routes.len() {
-        let start = routes[c].start;
-        let bay = usize::from(start.bay);
-        if waits(&routes[c], row, bay, matching[bay]) && start.row < least[bay] {
-            best[bay] = c;
-            least[bay] = start.row;
+        if waits(&routes[c], row, start, goal) && routes[c].start.row < least {
+            best = c;
+            least = routes[c].start.row;
         }
     }
+    best
 }
 
 // Of each pair of bays of a perfect matching, the waiting carrier with the lowest start row gets the middle row `row`.
 pub fn give_row(routes: &mut [Route], sides: Sides, row: u8, matching: &[usize])
     requires rows { LowRows routes.old }
-    requires bays { BaysBelow sides.width routes.old }
     requires fresh { (c : ℕ) → c < length routes.old → middle_of routes.old c ≢ row }
     requires perfect { Perfect (allows (plan_on sides routes.old) row) sides.width matching.now }
     ensures { Gave sides routes.old routes.new row matching.now }
 {
-    let mut best = [0; GREATEST_SIDE];
-    let mut least = [u8::MAX; GREATEST_SIDE];
-    pick_lowest(routes, row, matching, &mut best, &mut least);
     for bay in 0..matching.len() {
-        let carrier = best[bay];
+        let carrier = lowest(routes, row, bay, matching[bay]);
         routes[carrier].middle_row = row;
     }
 }

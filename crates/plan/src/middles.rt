@@ -45,7 +45,6 @@ fn fill(
     matching: &mut [usize],
     block: &mut [usize],
     marks: &mut [u8],
-    seen: &mut [u8],
     work: &mut WorkList,
 )
     requires counts { sides.width * sides.width ≤ length counts.old }
@@ -62,7 +61,7 @@ fn fill(
     for row in 0..rows {
         tally(routes, row, sides.width, counts);
         let waiting = BayCounts::new(counts, sides.width);
-        let _found = first_matching(&waiting, matching, block, marks, seen, work);
+        let _found = first_matching(&waiting, matching, block, marks, work);
         give_row(routes, sides, row, matching);
     }
 }
@@ -78,7 +77,6 @@ pub fn give_middle_rows(routes: &mut [Route], sides: Sides, marks: &mut [u8])
     let mut counts = [0; GREATEST_BAY_PAIRS];
     let mut matching = [0; GREATEST_SIDE];
     let mut block = [0; GREATEST_SIDE];
-    let mut seen = [0; GREATEST_SIDE];
     let mut members = [0; GREATEST_SIDE];
     let mut parents = [0; GREATEST_SIDE];
     let mut work = WorkList::over(&mut members, &mut parents);
@@ -90,7 +88,6 @@ pub fn give_middle_rows(routes: &mut [Route], sides: Sides, marks: &mut [u8])
         &mut matching[..bays],
         &mut block[..bays],
         marks,
-        &mut seen,
         &mut work,
     );
 }

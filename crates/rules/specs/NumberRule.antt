@@ -1,7 +1,7 @@
 -- What a number rule means, and when it is made.
 use Rattle.std.specs.Prelude.{◌≡◌, ℕ, ◌<◌, ◌≤◌, Bool, true, false, ◌&&◌, List, length, Ok, Err, vec_items, Result, ◌==◌, nat_lt, slice_index, refl}
 use Rattle.std.proofs.Common.{sym, ap, subst, ltb-true, le-ltb, ne_eqb, arith}
-use Rattle.rules.specs.Rules.{RuleView, Bounded, Alike}
+use Rattle.rules.specs.Rules.{RuleView, Bounded}
 use Rattle.rules.specs.Entries.{GoodWanted}
 use Rattle.rules.specs.declared.fault.RuleFault.{RuleFault}
 use Rattle.rules.specs.declared.number.NumberRule.{NumberRule}
@@ -39,10 +39,3 @@ wanting_bounded wanted good =
 -- outside its numbers the rule replies no
 pub number_bounded : (r : NumberRule) → Bounded (number_meaning r)
 number_bounded r = wanting_bounded (vec_items r.wanted) r.good
-
--- each carrier is a class by itself
-abbrev pub number_class : NumberRule → ℕ → ℕ
-number_class r c = c
-
-pub number_alike : (r : NumberRule) → Alike (number_meaning r) (number_class r)
-number_alike r s c d = ap ((number_meaning r).admits s)

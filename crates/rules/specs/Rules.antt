@@ -11,7 +11,3 @@ pub record RuleView : Type 0 where
 pub record Bounded (v : RuleView) : Type 0 where
   pub no_slot : (s c : ℕ) → v.slots ≤ s → v.admits s c ≡ false
   pub no_carrier : (s c : ℕ) → v.carriers ≤ c → v.admits s c ≡ false
-
--- carriers of one class are admitted by the same slots
-abbrev pub Alike : RuleView → (ℕ → ℕ) → Type 0
-Alike v class = (s c d : ℕ) → class c ≡ class d → v.admits s c ≡ v.admits s d

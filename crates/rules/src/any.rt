@@ -1,4 +1,4 @@
-ghost use Rattle.rules.specs.AnyRule.{any_meaning, any_bounded, any_class, any_alike};
+ghost use Rattle.rules.specs.AnyRule.{any_meaning, any_bounded};
 
 use crate::Rule;
 use crate::kind::KindRule;
@@ -15,10 +15,6 @@ impl Rule for AnyRule {
     ghost meaning = { any_meaning };
 
     ghost bounded = { any_bounded };
-
-    ghost classes = { any_class };
-
-    ghost alike = { any_alike };
 
     fn slots(&self) -> usize {
         match self {
@@ -38,13 +34,6 @@ impl Rule for AnyRule {
         match self {
             AnyRule::Number(rule) => rule.admits(slot, carrier),
             AnyRule::Kind(rule) => rule.admits(slot, carrier),
-        }
-    }
-
-    fn class(&self, carrier: usize) -> usize {
-        match self {
-            AnyRule::Number(rule) => rule.class(carrier),
-            AnyRule::Kind(rule) => rule.class(carrier),
         }
     }
 }

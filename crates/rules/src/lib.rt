@@ -2,14 +2,14 @@
 //
 // For: orders, which bring a rule, and the planner, which is proved over any rule. Promises: a rule means a number of
 // slots, a number of carriers, and for each slot and carrier whether it is admitted there; every reply is that
-// meaning's, so it is the same however often it is asked. Carriers of one class are admitted by the same slots. Rests on: nothing but std.
+// meaning's, so it is the same however often it is asked. Rests on: nothing but std.
 pub mod any;
 pub mod fault;
 pub mod kind;
 pub mod number;
 
-ghost use Rattle.std.specs.Prelude.{◌≡◌, ℕ};
-ghost use Rattle.rules.specs.Rules.{RuleView, Bounded, Alike};
+ghost use Rattle.std.specs.Prelude.{◌≡◌};
+ghost use Rattle.rules.specs.Rules.{RuleView, Bounded};
 
 pub trait Rule {
     // What the rule means.
@@ -17,12 +17,6 @@ pub trait Rule {
 
     // Outside its numbers a rule replies no.
     ghost bounded: { (r : Self) → Bounded (meaning r) };
-
-    // The class of each carrier. One each is always right; the fewer classes, the faster an order is planned.
-    ghost classes: { Self → ℕ → ℕ };
-
-    // Carriers of one class are admitted by the same slots.
-    ghost alike: { (r : Self) → Alike (meaning r) (classes r) };
 
     fn slots(&self) -> usize
         ensures { result ≡ (meaning self.now).slots };
@@ -33,7 +27,4 @@ pub trait Rule {
     // Whether the carrier will do in the slot.
     fn admits(&self, slot: usize, carrier: usize) -> bool
         ensures { result ≡ (meaning self.now).admits slot carrier };
-
-    fn class(&self, carrier: usize) -> usize
-        ensures { result ≡ classes self.now carrier };
 }

@@ -9,23 +9,23 @@ use Rattle.chain.specs.Calls.{Ordered}
 use Rattle.chain.specs.Floors.{FloorView}
 use Rattle.chain.specs.Sheets.{Event}
 use Rattle.chain.specs.Chains.{Chain}
-use Rattle.serve.specs.Served.{Account, Leads, Keeps, Under, Served}
+use Rattle.serve.specs.Served.{Account, Leads, Keeps, Served}
 use Rattle.serve.specs.declared.Ending.TheVariants.{Stopped, Spent}
 
 -- so many calls were played from o and z to f and v
-pub record Run {S : Type 0} (o : FloorView) (z : DeckView) (before : Account S) (f : FloorView) (v : DeckView) (after : Account S) (n : ℕ) : Type 0 where
+pub record Run (o : FloorView) (z : DeckView) (before : Account) (f : FloorView) (v : DeckView) (after : Account) (n : ℕ) : Type 0 where
   pub events : List Event
   pub squares : ℕ → Square
   pub chain : Chain o z f v events squares
   pub account : Keeps o z before events f v after
   pub count : length events ≡ n
 
-pub run_none : {S : Type 0} (o : FloorView) (z : DeckView) (before : Account S) → Run o z before o z before 0
+pub run_none : (o : FloorView) (z : DeckView) (before : Account) → Run o z before o z before 0
 run_none o z before =
-    record { events = []; squares = z.square; chain = Chain.opened; account = λ first es a. a; count = refl }
+    record { events = []; squares = z.square; chain = Chain.opened; account = λ es a. a; count = refl }
 
-module _ {S : Type 0} (o : FloorView) (z : DeckView) (before : Account S) (f : FloorView) (v : DeckView) (middle : Account S) (n : ℕ) (r : Run o z before f v middle n)
-    (g : FloorView) (w : DeckView) (after : Account S) where
+module _ (o : FloorView) (z : DeckView) (before : Account) (f : FloorView) (v : DeckView) (middle : Account) (n : ℕ) (r : Run o z before f v middle n)
+    (g : FloorView) (w : DeckView) (after : Account) where
   pub run_more :
       (e : Event) → Leads f v (e ∷ []) g w → Keeps f v middle (e ∷ []) g w after → Run o z before g w after (n + 1)
   run_more e leads keeps =
@@ -34,7 +34,7 @@ module _ {S : Type 0} (o : FloorView) (z : DeckView) (before : Account S) (f : F
         events = e ∷ r.events;
         squares = next.0;
         chain = next.1;
-        account = λ first es a. keeps first (r.events ++ es) (r.account first es a);
+        account = λ es a. keeps (r.events ++ es) (r.account es a);
         count = ap suc r.count ∙ sym (add-one n);
       }
 
@@ -45,7 +45,7 @@ module _ {S : Type 0} (o : FloorView) (z : DeckView) (before : Account S) (f : F
         events = r.events;
         squares = next.0;
         chain = next.1;
-        account = λ first es a. keeps first (r.events ++ es) (r.account first es a);
+        account = λ es a. keeps (r.events ++ es) (r.account es a);
         count = r.count;
       }
 
@@ -57,40 +57,43 @@ marks_back items last n long same =
 
 -- an order is played on a deck that the source left unmoved
 pub order_played :
-    {S : Type 0} (f g : FloorView) (v u : DeckView) (before after : Account S) (chosen : S → FloorView → List Event → List ℕ → Type 0)
-    (r : RuleView) (answer : Result ℕ FloorFault) (marks lent told : List ℕ)
+    (f g : FloorView) (v u : DeckView) (before middle after : Account) (chosen : List ℕ → Type 0) (r : RuleView)
+    (answer : Result ℕ FloorFault) (marks lent told : List ℕ)
     → SameFloor v u
     → Unmoved v u
-    → ((first : S) (es : List Event) → before first f v es → chosen first f es marks)
+    → ((es : List Event) → before f v es → middle f u es)
+    → chosen marks
     → lent ≡ marks
     → told ≡ marks
     → Ordered f u r lent answer g
-    → ((first : S) (f' : FloorView) (es : List Event)
-    → chosen first f' es told
+    → ((f' : FloorView) (es : List Event)
+    → middle f' u es
+    → chosen told
     → Ordered f' u r told answer g
-    → after first g u (Event.order r told answer ∷ es))
+    → after g u (Event.order r told answer ∷ es))
     → (e : Event) × Leads f v (e ∷ []) g u × Keeps f v before (e ∷ []) g u after
-order_played f g v u before after chosen r answer marks lent told same still next Lent-is told_is is tell =
+order_played f g v u before middle after chosen r answer marks lent told same still next choice Lent-is told_is is tell =
     let is-told : Ordered f u r told answer g =
-    subst (λ (m : List ℕ). Ordered f u r m answer g) (Lent-is ∙ sym told_is) is in (
+    subst (λ (m : List ℕ). Ordered f u r m answer g) (Lent-is ∙ sym told_is) is in
+    let choice-told : chosen told = subst chosen (sym told_is) choice in (
       Event.order r told answer,
       (λ o z es q chain. (_, Chain.ordered r told answer (Chain.drifted chain same still) is-told)),
-      (λ first es kept. tell first f es (subst (chosen first f es) (sym told_is) (next first es kept)) is-told),
+      (λ es kept. tell f es (next es kept) choice-told is-told),
     )
 
 -- what playing comes to
 pub stopped :
-    {S : Type 0} (o : FloorView) (z : DeckView) (before : Account S) (f : FloorView) (v : DeckView) (after : Account S) (over : Type 0) (n budget : ℕ)
+    (o : FloorView) (z : DeckView) (before : Account) (f : FloorView) (v : DeckView) (after : Account) (over : Type 0) (n budget : ℕ)
     → Run o z before f v after n
     → n ≤ budget
-    → Under o z before over
+    → over
     → Served o z before f v after over budget Stopped
 stopped o z before f v after over n budget r few end =
     let e = r.count in
     record { events = r.events; squares = r.squares; chain = r.chain; account = r.account; ended = (end, omega arith) }
 
 pub spent :
-    {S : Type 0} (o : FloorView) (z : DeckView) (before : Account S) (f : FloorView) (v : DeckView) (after : Account S) (over : Type 0) (n budget : ℕ)
+    (o : FloorView) (z : DeckView) (before : Account) (f : FloorView) (v : DeckView) (after : Account) (over : Type 0) (n budget : ℕ)
     → Run o z before f v after n
     → n ≡ budget
     → Served o z before f v after over budget Spent

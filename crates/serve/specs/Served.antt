@@ -8,9 +8,9 @@ use Rattle.chain.specs.Chains.{Chain}
 use Rattle.serve.specs.declared.Ending.{Ending}
 use Rattle.serve.specs.declared.Ending.TheVariants.{Stopped, Spent}
 
--- what a source, which was such a one at first, keeps true of a record, a deck and the events so far
-abbrev pub Account : Type 0 → Type 1
-Account S = S → FloorView → DeckView → List Event → Type 0
+-- what a source keeps true of a record, a deck and the events so far
+abbrev pub Account : Type 1
+Account = FloorView → DeckView → List Event → Type 0
 
 -- every chain that led to the record f and the deck v goes on to g and w by these events, the newest first
 abbrev pub Leads : FloorView → DeckView → List Event → FloorView → DeckView → Type 0
@@ -20,19 +20,14 @@ Leads f v events g w =
     → (q' : ℕ → Square) × Chain o z g w (events ++ es) q'
 
 -- these events were told, and the account was kept over them
-abbrev pub Keeps : {S : Type 0} → FloorView → DeckView → Account S → List Event → FloorView → DeckView → Account S → Type 0
-Keeps {S} f v before events g w after =
-    (first : S) (es : List Event) → before first f v es → after first g w (events ++ es)
-
--- what holds in the end if the account held before
-abbrev pub Under : {S : Type 0} → FloorView → DeckView → Account S → Type 0 → Type 0
-Under {S} f v before over = (first : S) (es : List Event) → before first f v es → over
+abbrev pub Keeps : FloorView → DeckView → Account → List Event → FloorView → DeckView → Account → Type 0
+Keeps f v before events g w after = (es : List Event) → before f v es → after g w (events ++ es)
 
 -- one call was played, or the source stopped
-abbrev pub Played : {S : Type 0} → FloorView → DeckView → Account S → FloorView → DeckView → Account S → Type 0 → Bool → Type 0
+abbrev pub Played : FloorView → DeckView → Account → FloorView → DeckView → Account → Type 0 → Bool → Type 0
 Played f v before g w after over true =
     (event : Event) × Leads f v (event ∷ []) g w × Keeps f v before (event ∷ []) g w after
-Played f v before g w after over false = Leads f v [] g w × Keeps f v before [] g w after × Under f v before over
+Played f v before g w after over false = Leads f v [] g w × Keeps f v before [] g w after × over
 
 -- how playing ended
 abbrev pub Ended : Type 0 → ℕ → ℕ → Ending → Type 0
@@ -41,9 +36,9 @@ Ended over budget played Spent = played ≡ budget
 
 -- From the record o and the deck z on there was a chain of calls that leaves the record f and the deck v; the source was
 -- told its events, and kept its account over them.
-pub record Served {S : Type 0} (o : FloorView) (z : DeckView) (before : Account S) (f : FloorView) (v : DeckView) (after : Account S) (over : Type 0) (budget : ℕ) (r : Ending) : Type 0 where
+pub record Served (o : FloorView) (z : DeckView) (before : Account) (f : FloorView) (v : DeckView) (after : Account) (over : Type 0) (budget : ℕ) (r : Ending) : Type 0 where
   pub events : List Event
   pub squares : ℕ → Square
   pub chain : Chain o z f v events squares
   pub account : Keeps o z before events f v after
-  pub ended : Ended (Under o z before over) budget (length events) r
+  pub ended : Ended over budget (length events) r

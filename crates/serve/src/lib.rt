@@ -37,12 +37,11 @@ pub enum Ending {
 
 // Whoever chooses the calls, and is told each answer.
 pub trait Source<D: Deck> {
-    // What the source keeps true between calls: of itself as it is and as it was at first, of the record, the deck and the
-    // events so far, the newest first.
-    ghost account: { Self → Self → FloorView → DeckView → List Event → Type 0 };
+    // What the source keeps true of the record, the deck and the events so far, the newest first.
+    ghost account: { Self → FloorView → DeckView → List Event → Type 0 };
 
-    // What holds from its choice of a call to the answer.
-    ghost chosen: { Self → Self → FloorView → DeckView → List Event → Choice → Type 0 };
+    // What it has chosen to call next.
+    ghost chosen: { Self → Choice → Type 0 };
 
     // What holds of it when it has stopped.
     ghost over: { Self → Type 0 };
@@ -51,7 +50,8 @@ pub trait Source<D: Deck> {
     fn next(&mut self, floor: &Floor, deck: &mut D) -> Call
         ensures floor { SameFloor (D.Deck.view deck.old) (D.Deck.view deck.new) }
         ensures still { Unmoved (D.Deck.view deck.old) (D.Deck.view deck.new) }
-        ensures chooses { (first : Self) (es : List Event) → account self.old first (shown floor.now) (D.Deck.view deck.old) es → Chooses (chosen self.new first (shown floor.now) (D.Deck.view deck.new) es) (account self.new first (shown floor.now) (D.Deck.view deck.new) es) (over self.new) result };
+        ensures kept { (es : List Event) → account self.old (shown floor.now) (D.Deck.view deck.old) es → account self.new (shown floor.now) (D.Deck.view deck.new) es }
+        ensures chooses { Chooses (chosen self.new) (over self.new) result };
 
     // An order was made of this rule and these marks.
     fn ordered(
@@ -62,13 +62,13 @@ pub trait Source<D: Deck> {
         marks: &[u8],
         answer: Result<usize, FloorFault>,
     )
-        ensures { (first : Self) (f : FloorView) (es : List Event) → chosen self.old first f (D.Deck.view deck.now) es (Choice.order (any_meaning rule.now) marks.now) → Ordered f (D.Deck.view deck.now) (any_meaning rule.now) marks.now answer (shown floor.now) → account self.new first (shown floor.now) (D.Deck.view deck.now) (Event.order (any_meaning rule.now) marks.now answer ∷ es) };
+        ensures { (f : FloorView) (es : List Event) → account self.old f (D.Deck.view deck.now) es → chosen self.old (Choice.order (any_meaning rule.now) marks.now) → Ordered f (D.Deck.view deck.now) (any_meaning rule.now) marks.now answer (shown floor.now) → account self.new (shown floor.now) (D.Deck.view deck.now) (Event.order (any_meaning rule.now) marks.now answer ∷ es) };
 
     fn stepped(&mut self, floor: &Floor, deck: &D, answer: Result<usize, FloorFault>)
-        ensures { (first : Self) (f : FloorView) (v : DeckView) (es : List Event) → chosen self.old first f v es Choice.step → Stepped f v answer (shown floor.now) (D.Deck.view deck.now) → account self.new first (shown floor.now) (D.Deck.view deck.now) (Event.step answer ∷ es) };
+        ensures { (f : FloorView) (v : DeckView) (es : List Event) → account self.old f v es → chosen self.old Choice.step → Stepped f v answer (shown floor.now) (D.Deck.view deck.now) → account self.new (shown floor.now) (D.Deck.view deck.now) (Event.step answer ∷ es) };
 
     fn backed(&mut self, floor: &Floor, deck: &D, answer: Result<usize, FloorFault>)
-        ensures { (first : Self) (f : FloorView) (v : DeckView) (es : List Event) → chosen self.old first f v es Choice.back → Backed f v answer (shown floor.now) (D.Deck.view deck.now) → account self.new first (shown floor.now) (D.Deck.view deck.now) (Event.back answer ∷ es) };
+        ensures { (f : FloorView) (v : DeckView) (es : List Event) → account self.old f v es → chosen self.old Choice.back → Backed f v answer (shown floor.now) (D.Deck.view deck.now) → account self.new (shown floor.now) (D.Deck.view deck.now) (Event.back answer ∷ es) };
 }
 
 // Plays one call; false where the source stops.

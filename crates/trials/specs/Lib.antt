@@ -1,4 +1,3 @@
 pub mod OneCell
 pub mod NewFloors
-pub mod Records
 pub mod Trials

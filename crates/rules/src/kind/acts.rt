@@ -1,6 +1,6 @@
 ghost use Rattle.std.specs.Prelude.{◌≡◌, ℕ, ◌<◌, length, vec_len, MatchBool};
 ghost use Rattle.rules.specs.Entries.{GoodKinds};
-ghost use Rattle.rules.specs.KindRule.{KindMade, has_bit, kind_meaning, kind_bounded, kind_class, kind_alike};
+ghost use Rattle.rules.specs.KindRule.{KindMade, has_bit, kind_meaning, kind_bounded};
 
 use crate::Rule;
 use crate::fault::RuleFault;
@@ -57,10 +57,6 @@ impl Rule for KindRule {
 
     ghost bounded = { kind_bounded };
 
-    ghost classes = { kind_class };
-
-    ghost alike = { kind_alike };
-
     fn slots(&self) -> usize {
         self.masks.len()
     }
@@ -74,12 +70,5 @@ impl Rule for KindRule {
             return false;
         }
         has_bit(self.masks[slot], self.kinds[carrier])
-    }
-
-    fn class(&self, carrier: usize) -> usize {
-        if carrier >= self.kinds.len() {
-            return usize::from(KINDS);
-        }
-        usize::from(self.kinds[carrier])
     }
 }

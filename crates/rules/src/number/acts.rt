@@ -1,6 +1,6 @@
 ghost use Rattle.std.specs.Prelude.{◌≡◌, ℕ, ◌<◌, length, vec_len, MatchBool};
 ghost use Rattle.rules.specs.Entries.{GoodWanted};
-ghost use Rattle.rules.specs.NumberRule.{NumberMade, number_meaning, number_bounded, number_class, number_alike};
+ghost use Rattle.rules.specs.NumberRule.{NumberMade, number_meaning, number_bounded};
 
 use crate::Rule;
 use crate::fault::RuleFault;
@@ -42,10 +42,6 @@ impl Rule for NumberRule {
 
     ghost bounded = { number_bounded };
 
-    ghost classes = { number_class };
-
-    ghost alike = { number_alike };
-
     fn slots(&self) -> usize {
         self.wanted.len()
     }
@@ -56,9 +52,5 @@ impl Rule for NumberRule {
 
     fn admits(&self, slot: usize, carrier: usize) -> bool {
         slot < self.wanted.len() && self.wanted[slot] as usize == carrier
-    }
-
-    fn class(&self, carrier: usize) -> usize {
-        carrier
     }
 }

@@ -17,10 +17,10 @@ returns-in-Order g c =
     let view = g.D.Deck.view in
     let account = g.S.Source.account in
     order_played (shown c.args.floor.now) (shown c.order-answer.new.self) (view c.args.deck.now) (view c.next.new.deck)
-    (account c.args.calls.now) (account c.ordered.new.self)
-    (λ first f es (m : List ℕ). g.S.Source.chosen c.next.new.self first f (view c.next.new.deck) es (Choice.order rule m))
+    (account c.args.calls.now) (account c.next.new.self) (account c.ordered.new.self)
+    (λ (m : List ℕ). g.S.Source.chosen c.next.new.self (Choice.order rule m))
     rule c.order-answer.result (vec_items marks) c.deref-mut.result.now c.deref.result.now
-    n.floor n.still n.chooses lent
+    n.floor n.still n.kept n.chooses lent
     (c.deref.ensures.value ∙ marks_back (vec_items marks) c.order-answer.new.marks marks.len marks.ok.0 (c.order-answer.ensures.marks ∙ lent))
     c.order-answer.ensures.ordered c.ordered.ensures
 
@@ -29,7 +29,7 @@ returns-in-Step g c =
     let n = c.in-Step.ensures in (
       Event.step c.step-answer.result,
       (λ o z es q chain. (q, Chain.stepped _ (Chain.drifted chain n.floor n.still) c.step-answer.ensures)),
-      (λ first es kept. c.stepped.ensures first _ _ es (n.chooses first es kept) c.step-answer.ensures),
+      (λ es kept. c.stepped.ensures _ _ es (n.kept es kept) n.chooses c.step-answer.ensures),
     )
 
 pub returns-in-Back : goal.returns-in-Back
@@ -37,13 +37,10 @@ returns-in-Back g c =
     let n = c.in-Back.ensures in (
       Event.back c.back-answer.result,
       (λ o z es q chain. (q, Chain.backed _ (Chain.drifted chain n.floor n.still) c.back-answer.ensures)),
-      (λ first es kept. c.backed.ensures first _ _ es (n.chooses first es kept) c.back-answer.ensures),
+      (λ es kept. c.backed.ensures _ _ es (n.kept es kept) n.chooses c.back-answer.ensures),
     )
 
 pub returns-in-Stop : goal.returns-in-Stop
 returns-in-Stop g c =
-    let n = c.in-Stop.ensures in (
-      (λ o z es q chain. (q, Chain.drifted chain n.floor n.still)),
-      (λ first es kept. (n.chooses first es kept).0),
-      (λ first es kept. (n.chooses first es kept).1),
-    )
+    let n = c.in-Stop.ensures in
+    ((λ o z es q chain. (q, Chain.drifted chain n.floor n.still)), n.kept, n.chooses)

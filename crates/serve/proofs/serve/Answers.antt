@@ -1,4 +1,4 @@
-use Rattle.std.proofs.Common.{◌++◌, arith}
+use Rattle.std.proofs.Common.{arith}
 use Rattle.floor.specs.Shown.{shown}
 use Rattle.serve.proofs.Playing.{run_none, run_more, run_still, stopped, spent}
 use Rattle.serve.proofs.serve.Goals as goal
@@ -26,7 +26,7 @@ returns-then-not-play g c =
     (account c.play.new.calls) p.0 p.1 in
     stopped (shown c.args.floor.now) (view c.args.deck.now) (account c.args.calls.now) (shown c.play.new.floor)
     (view c.play.new.deck) (account c.play.new.calls) (g.S.Source.over c.play.new.calls) c.loop.counter c.args.budget run
-    (omega arith) (λ first es kept. p.2 first (c.loop.invariant.events ++ es) (c.loop.invariant.account first es kept))
+    (omega arith) p.2
 
 pub returns : goal.returns
 returns g c =

@@ -1,12 +1,9 @@
-use Rattle.std.proofs.Common.{◌≡◌, ℕ, ◌-◌, ◌<◌, length, sym, refl, ap, ◌∙◌, subst, inl, inr, arith, length-set, get_or-set_other, get_or-set_same}
+use Rattle.std.proofs.Common.{◌≡◌, ◌-◌, ◌<◌, length, refl, ◌∙◌, inl, inr, arith, length-set, get_or-set_other, get_or-set_same}
 use Rattle.matchings.specs.Matchings.{◌!◌}
 use Rattle.matchings.proofs.Lines.{same_as, same_two}
-use Rattle.matchings.specs.Reaching.{loose, Alike}
-use Rattle.matchings.proofs.Reaching.{started, goal_fits, joined, at_end, loose_alike, closed_skip, noted_more, none_noted}
-use Rattle.matching.specs.WorkLists.{members_of}
+use Rattle.matchings.proofs.Reaching.{started, goal_fits, joined, at_end}
 use Rattle.matching.proofs.Rooms.{room_two, room_after}
 use Rattle.matching.proofs.reaching.reach.Goals as goal
-use Rattle.matching.proofs.reaching.reach.Goals.{then-note, else-note}
 
 pub loop-head-init : goal.loop-head-init
 loop-head-init g c = (
@@ -18,7 +15,6 @@ loop-head-init g c = (
   same_as _ _,
   omega arith,
   record { own = refl; theirs = refl },
-  λ k h. absurd (none_noted c.clear.new.marks (λ j l. c.clear.ensures.zero j (omega (arith, c.clear.auto.marks))) k h),
 )
 
 pub join-requires : goal.join-requires
@@ -49,37 +45,13 @@ pub overflow-add-head : goal.overflow-add-head
 overflow-add-head g c = let h = c.loop-head.invariant.0.fits in omega arith
 
 pub loop-head-preserved : goal.loop-head-preserved
-loop-head-preserved g c =
-    let A = loose (g.R.Relation.allowed c.args.rel.now) c.args.quest.wild in
-    let class = g.R.Relation.classes c.args.rel.now in
-    let mate = c.args.mate.now in
-    let members = members_of c.loop-head.work in
-    let head = c.loop-head.head in
-    let at : c.class.result ≡ class (mate ! (members ! head)) = c.class.ensures ∙ ap (λ (x : ℕ). class (mate ! x)) c.member.ensures in
-    elim c.if-note.branch [
-      | then-note w ↦ simp (w.work-is, w.marks-is, w.tail-is) (
-        w.visit-tail.ensures.reached,
-        w.visit-tail.ensures.closed,
-        omega (arith, w.visit-tail.ensures.ahead),
-        λ k h. w.visit-tail.ensures.rest k h ∙ c.loop-head.invariant.3 k h,
-        w.visit-tail.ensures.movable,
-        same_two _ _ _ _ c.loop-head.invariant.5 w.visit-tail.ensures.same,
-        w.visit-tail.ensures.ahead.1,
-        room_two _ _ _ c.loop-head.invariant.7 w.visit-tail.ensures.room,
-        noted_more class mate members _ head c.loop-head.tail _ _ _ _ c.loop-head.invariant.8 at w.if-note.ensures (omega arith) w.visit-tail.ensures.front,
-      )
-      | else-note w ↦ simp (w.work-is, w.marks-is, w.tail-is) (
-        c.loop-head.invariant.0,
-        closed_skip A _ _ _ class mate members _ _ head
-            (subst (λ (x : ℕ). Alike A x class) (sym c.requires.size.0) (loose_alike _ _ _ class (g.R.Relation.alike c.args.rel.now)))
-            c.requires.inj c.loop-head.invariant.4 (omega arith) c.loop-head.invariant.1 c.loop-head.invariant.8
-            (subst (λ (x : ℕ). 0 < c.loop-head.seen ! x) at (w.if-note.ensures.known refl)),
-        omega arith,
-        c.loop-head.invariant.3,
-        c.loop-head.invariant.4,
-        c.loop-head.invariant.5,
-        c.loop-head.invariant.6,
-        c.loop-head.invariant.7,
-        noted_more class mate members _ head c.loop-head.tail _ _ _ _ c.loop-head.invariant.8 at w.if-note.ensures (omega arith) (λ k h. refl),
-      )
-    ]
+loop-head-preserved g c = (
+  c.visit-tail.ensures.reached,
+  c.visit-tail.ensures.closed,
+  omega (arith, c.visit-tail.ensures.ahead),
+  λ k h. c.visit-tail.ensures.rest k h ∙ c.loop-head.invariant.3 k h,
+  c.visit-tail.ensures.movable,
+  same_two _ _ _ _ c.loop-head.invariant.5 c.visit-tail.ensures.same,
+  c.visit-tail.ensures.ahead.1,
+  room_two _ _ _ c.loop-head.invariant.7 c.visit-tail.ensures.room,
+)

@@ -1,11 +1,36 @@
-use Rattle.std.proofs.Common.{◌≡◌, ℕ, List, IfOk, subst}
+use Rattle.std.proofs.Common.{◌≡◌, ℕ, List, ◌++◌, length, get_or, take, drop, sym, ap, ◌∙◌, subst, arith, take_all}
+use lib.Seq.{take-append-le}
+use Rattle.std.proofs.lemmas.List.{get_or-replicate}
+use Rattle.matchings.specs.Matchings.{First}
 use Rattle.matchingtext.specs.Sheets.{allowed_by}
-use Rattle.matchingtext.specs.Solutions.{Solved}
 use Rattle.matchingtext.proofs.solving.solve.Goals as goal
 
-pub returns : goal.returns
-returns c =
-    let e = c.in-ok-table.ensures in
-    let t = c.in-ok-table.table in
-    subst (λ (rows : List ℕ). IfOk c.first-of.result (λ o. Solved (allowed_by rows c.args.count) c.args.count o)) e.1
-    (subst (λ (n : ℕ). IfOk c.first-of.result (λ o. Solved (allowed_by t.rows.now n) n o)) e.0 c.first-of.ensures)
+-- a list as long as the front that is kept is that front
+front : (n : ℕ) (a b : List ℕ) → length a ≡ n → take n (a ++ b) ≡ a
+front n a b e = take-append-le n a b (omega arith) ∙ take_all n a (omega arith)
+
+pub first-in-requires : goal.first-in-requires
+first-in-requires c =
+    let mate = c.in-ok-mate.ensures.made in
+    let block = c.in-ok-block.ensures.made in
+    let marks = c.in-ok-marks.ensures.made in
+    let members = c.in-ok-members.ensures.made in
+    let parents = c.in-ok-parents.ensures.made in
+    let a = c.deref-mut.ensures.len in
+    let b = c.deref-mut-2.ensures.len in
+    let d = c.deref-mut-3.ensures.len in
+    let e = c.deref-mut-4.ensures.len in
+    let f = c.deref-mut-5.ensures.len in
+    record {
+      size = (omega arith, omega arith);
+      room = (omega arith, (omega arith, omega arith));
+      clear = λ k l. ap (λ xs. get_or xs k 0) c.deref-mut-3.ensures.value ∙ ap (λ xs. get_or xs k 0) (c.in-ok-marks.ensures.items-if-clones-equal (λ y h. h)) ∙ get_or-replicate c.args.table.now.count k 0 0 (omega arith);
+    }
+
+pub returns-then-first-in : goal.returns-then-first-in
+returns-then-first-in c =
+    let A = allowed_by c.args.table.now.rows.now c.args.table.now.count in
+    let last = c.first-in.new.mate in
+    let long : length last ≡ c.in-ok-mate.mate.len = omega (arith, c.first-in.auto.mate, c.deref-mut.ensures.len) in
+    subst (λ (m : List ℕ). First A c.args.table.now.count m) (sym (front c.in-ok-mate.mate.len last (drop (length last) c.in-ok-mate.mate.items) long))
+    c.if-first-in.ensures.found

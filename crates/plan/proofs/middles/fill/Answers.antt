@@ -10,7 +10,6 @@ give-row-requires c =
     let t = s.tall in
     record {
       rows = λ i l. let z = (W.starts.inside i l).0 in omega arith;
-      bays = λ i l. ((W.starts.inside i l).1, (W.goals.inside i l).1);
       fresh = upto_fresh _ _ _ _ _ U (omega arith);
       perfect =
           (matched _ _ _ _ _ _ _ c.new-waiting.ensures.0

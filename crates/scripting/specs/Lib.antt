@@ -1,6 +1,0 @@
-pub mod Orders
-pub mod Scripts
-pub mod Theorems
-pub mod Lines
-pub mod Texts
-pub mod Writing
