@@ -14,7 +14,7 @@ loop-k-preserved g c =
     let k = c.loop-k.k in
     let i : k < u.carriers = omega arith in
     let s = subst (λ (n : ℕ). Steered v k n c.steer.result w) c.number.ensures c.steer.ensures in
-    steering_more u v w c.args.headings.now k i c.loop-k.invariant c.heading-of-heading.result c.steer.result c.heading-of-heading.ensures s
+    steering_more u v w c.args.headings.now k i c.loop-k.invariant c.heading_of-heading.result c.steer.result c.heading_of-heading.ensures s
 
 pub returns : goal.returns
 returns g c =
