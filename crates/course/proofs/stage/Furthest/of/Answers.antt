@@ -13,9 +13,9 @@ pub loop-route-preserved : goal.loop-route-preserved
 loop-route-preserved c =
     let routes = c.args.routes.now in
     let l = c.loop-route in (
-      greatest_next (λ i. away (route_at routes i).start.row (route_at routes i).middle_row) l.route-index _ _ _ c.abs-diff.ensures l.invariant.0 c.max-first.ensures,
-      greatest_next (λ i. away (route_at routes i).start.bay (route_at routes i).goal.bay) l.route-index _ _ _ c.abs-diff-in-loop-route.ensures l.invariant.1 c.max-across.ensures,
-      greatest_next (λ i. away (route_at routes i).middle_row (route_at routes i).goal.row) l.route-index _ _ _ c.abs-diff-in-loop-route-2.ensures l.invariant.2 c.max-last.ensures,
+      greatest_next (λ i. away (route_at routes i).start.row (route_at routes i).middle_row) l.route-index _ _ _ c.abs_diff.ensures l.invariant.0 c.max-first.ensures,
+      greatest_next (λ i. away (route_at routes i).start.bay (route_at routes i).goal.bay) l.route-index _ _ _ c.abs_diff-in-loop-route.ensures l.invariant.1 c.max-across.ensures,
+      greatest_next (λ i. away (route_at routes i).middle_row (route_at routes i).goal.row) l.route-index _ _ _ c.abs_diff-in-loop-route-2.ensures l.invariant.2 c.max-last.ensures,
     )
 
 pub returns : goal.returns
