@@ -14,17 +14,17 @@ returns-then-t-rows c =
     let st : Standing c.args.self.now c.args.step Turn _ = record { made = omega arith; unfinished = omega arith } in
     record { standing = st; alike = λ p g. stands_alike p _ g _ _ _ st }
 
-pub returns-then-t-turn-back : goal.returns-then-t-turn-back
-returns-then-t-turn-back c =
+pub returns-then-t-turn_back : goal.returns-then-t-turn_back
+returns-then-t-turn_back c =
     let st : Standing c.args.self.now c.args.step Rows _ = record { made = omega arith; unfinished = omega arith } in
     record { standing = st; alike = λ p g. stands_alike p _ g _ _ _ st }
 
-pub returns-then-t-last-columns : goal.returns-then-t-last-columns
-returns-then-t-last-columns c =
+pub returns-then-t-last_columns : goal.returns-then-t-last_columns
+returns-then-t-last_columns c =
     let st : Standing c.args.self.now c.args.step TurnBack _ = record { made = omega arith; unfinished = omega arith } in
     record { standing = st; alike = λ p g. stands_alike p _ g _ _ _ st }
 
-pub returns-else-t-last-columns : goal.returns-else-t-last-columns
-returns-else-t-last-columns c =
+pub returns-else-t-last_columns : goal.returns-else-t-last_columns
+returns-else-t-last_columns c =
     let st : Standing c.args.self.now c.args.step LastColumns _ = record { made = omega arith; unfinished = tt } in
     record { standing = st; alike = λ p g. stands_alike p _ g _ _ _ st }
