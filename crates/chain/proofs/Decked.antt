@@ -1,8 +1,7 @@
 -- Decks that show the same squares.
-use Rattle.std.proofs.Common.{◌≡◌, ℕ, ◌<◌, sym, refl, ap, ◌∙◌, subst, arith}
+use Rattle.std.proofs.Common.{◌≡◌, ℕ, ◌<◌, sym, ap, ◌∙◌, arith}
 use Rattle.grid.specs.declared.square.Square.{Square}
-use Rattle.grid.specs.Squares.{OnFloor}
-use Rattle.deck.specs.Decks.{DeckView, Sound, SameFloor, Unmoved}
+use Rattle.deck.specs.Decks.{DeckView, Sound}
 
 -- a deck of the same size with its carriers on the same squares is sound too
 pub same_sound :

@@ -1,21 +1,21 @@
 -- What the sheet, the record and the deck have to do with each other, kept by every call of a chain.
-use Rattle.std.proofs.Common.{◌≡◌, ℕ, zero, suc, ◌+◌, ◌-◌, ◌*◌, ◌%◌, ◌<◌, ◌≤◌, max, cond, eqb, ◌⊎◌, List, [], ◌∷◌, Some, None, Ok, Err, Option, Result, sym, refl, ap, ◌∙◌, subst, inl, inr, arith}
+use Rattle.std.proofs.Common.{◌≡◌, ℕ, zero, suc, ◌+◌, ◌-◌, ◌*◌, ◌%◌, ◌<◌, ◌≤◌, cond, eqb, List, Some, None, Ok, Err, sym, refl, ap, ◌∙◌, subst, arith}
 use Rattle.grid.specs.declared.slot.Slot.{Slot}
 use Rattle.grid.specs.declared.square.Square.{Square}
 use Rattle.grid.specs.Sides.{GoodSides, row_count, slot_count}
 use Rattle.grid.specs.Slots.{slot, slot_square}
-use Rattle.deck.specs.Decks.{DeckView, Sound, SameFloor, Unmoved, Unchanged, Halted}
+use Rattle.deck.specs.Decks.{DeckView, Sound, SameFloor, Unmoved}
 use Rattle.rules.specs.Rules.{RuleView}
 use Rattle.motion.specs.Runs.{away}
-use Rattle.motion.specs.Plans.{Plan, greatest, run_steps, furthest, start_row, start_bay, goal_row, goal_bay, start_column, goal_column, first_columns_steps, turn_steps, rows_steps, turn_back_steps, last_columns_steps, whole, plan_steps}
+use Rattle.motion.specs.Plans.{greatest, run_steps, furthest, start_row, start_bay, goal_row, goal_bay, start_column, goal_column, first_columns_steps, turn_steps, rows_steps, last_columns_steps, whole, plan_steps}
 use Rattle.motion.specs.Carrying.{InSlots, Good, moment, Carried}
 use Rattle.motion.proofs.Lengths.{greatest_none, greatest_more}
 use Rattle.motion.proofs.Whole.{plans_are_carried}
 use Rattle.planning.specs.Planned.{Planned, Apart}
 use Rattle.chain.specs.Floors.{FloorView, slots, with_done, Kept, Sized, Stands}
-use Rattle.chain.specs.Calls.{InSlot, Opening, Accepted, Ordered, StepRefused, BackRefused, MovedTo, Stepped, Backed}
-use Rattle.chain.specs.Sheets.{Event, Sheet, sheet, noted, sheet_of}
-use Rattle.chain.specs.Chains.{Chain, shown_at_order}
+use Rattle.chain.specs.Calls.{Opening, Accepted, StepRefused, BackRefused, MovedTo}
+use Rattle.chain.specs.Sheets.{Event, Sheet, sheet, sheet_of}
+use Rattle.chain.specs.Chains.{Chain}
 use Rattle.chain.specs.declared.fault.FloorFault.{FloorFault}
 use Rattle.chain.proofs.PlanFacts.{planned_good, planned_starts}
 use Rattle.chain.proofs.Decked.{same_sound}

@@ -1,5 +1,5 @@
 -- Every chain keeps its promises.
-use Rattle.std.proofs.Common.{◌≡◌, ℕ, ◌+◌, ◌*◌, ◌<◌, ◌≤◌, Bool, true, false, ◌⊎◌, List, length, Some, None, Ok, Err, Result, sym, refl, ap, ◌∙◌, subst, inl, inr, arith}
+use Rattle.std.proofs.Common.{◌≡◌, ℕ, ◌+◌, ◌<◌, ◌≤◌, Bool, true, false, ◌⊎◌, List, Some, Ok, Err, Result, sym, refl, ap, ◌∙◌, subst, inl, inr, arith}
 use Rattle.grid.specs.declared.square.Square.{Square}
 use Rattle.grid.specs.Sides.{GoodSides, slot_count}
 use Rattle.grid.specs.Slots.{slot_square, numbered_slot}
@@ -8,16 +8,14 @@ use Rattle.rules.specs.Rules.{RuleView}
 use Rattle.matchings.specs.Matchings.{First, ◌!◌}
 use Rattle.motion.specs.Plans.{Plan, whole, plan_steps, first_columns_steps, turn_steps, rows_steps, turn_back_steps, last_columns_steps}
 use Rattle.motion.specs.Carrying.{longest, Carried}
-use Rattle.motion.proofs.Whole.{plans_are_carried}
 use Rattle.planning.specs.Planned.{Planned}
-use Rattle.chain.specs.Floors.{FloorView, slots, Kept, Sized, Stands}
-use Rattle.chain.specs.Calls.{Clean, RuleFor, Fillable, Opening, OrderRefused, Accepted, Ordered, StepRefused, BackRefused, MovedTo, Stepped, Backed}
-use Rattle.chain.specs.Sheets.{Event, Sheet, sheet, sheet_of}
-use Rattle.chain.specs.Chains.{Chain}
+use Rattle.chain.specs.Floors.{FloorView, slots, Sized}
+use Rattle.chain.specs.Calls.{Clean, RuleFor, Fillable, Opening, OrderRefused, Accepted, Ordered, StepRefused, BackRefused, Stepped, Backed}
+use Rattle.chain.specs.Sheets.{Event, Sheet, sheet_of}
 use Rattle.chain.specs.Promises.{EarlierChecks, IsOk, Swapped, Promised, EveryChainKeepsItsPromises}
 use Rattle.chain.specs.declared.fault.FloorFault.{FloorFault}
 use Rattle.chain.specs.declared.fault.FloorFault.TheVariants.{Astray, Unfillable}
-use Rattle.chain.proofs.PlanFacts.{planned_good, planned_assignment, planned_goals, planned_places, planned_steps}
+use Rattle.chain.proofs.PlanFacts.{planned_assignment, planned_goals, planned_places, planned_steps}
 use Rattle.chain.proofs.Fitting.{Fits, carried, many, fits_opened, fits_always, step_still, back_still}
 
 steps_sum : (p : Plan) → plan_steps p ≡ first_columns_steps p + turn_steps p + rows_steps p + turn_back_steps p + last_columns_steps p

@@ -1,5 +1,5 @@
 -- What a chain needs of the plans that the definitions give.
-use Rattle.std.proofs.Common.{◌≡◌, ℕ, zero, suc, ◌+◌, ◌*◌, ◌/◌, ◌%◌, ◌<◌, List, sym, refl, ap, ◌∙◌, subst, mod-lt, arith}
+use Rattle.std.proofs.Common.{◌≡◌, ℕ, ◌+◌, ◌*◌, ◌/◌, ◌%◌, ◌<◌, List, sym, refl, ap, ◌∙◌, mod-lt, arith}
 use native.Mathlib.Nat.{div-add-mod}
 use Rattle.grid.specs.declared.slot.Slot.{Slot}
 use Rattle.grid.specs.declared.square.Square.{Square}

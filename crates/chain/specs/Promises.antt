@@ -1,5 +1,5 @@
 -- What holds of every chain of calls, each promise by its name.
-use Rattle.std.specs.Prelude.{◌≡◌, ℕ, ◌+◌, ◌*◌, ◌<◌, ◌≤◌, true, ◌⊎◌, List, length, Some, Ok, Err, Result}
+use Rattle.std.specs.Prelude.{◌≡◌, ℕ, ◌+◌, ◌<◌, ◌≤◌, true, ◌⊎◌, List, length, Some, Ok, Err, Result}
 use Rattle.grid.specs.declared.square.Square.{Square}
 use Rattle.grid.specs.Sides.{slot_count}
 use Rattle.grid.specs.Slots.{slot_square, numbered_slot}

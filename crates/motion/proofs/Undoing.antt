@@ -1,10 +1,10 @@
 -- The reverse of a lawful move of a sound deck is lawful, and leads back.
-use Rattle.std.proofs.Common.{◌≡◌, ℕ, ◌-◌, ◌<◌, sym, refl, ap, ◌∙◌, subst, arith}
+use Rattle.std.proofs.Common.{◌≡◌, ℕ, ◌<◌, sym, refl, ap, ◌∙◌, subst, arith}
 use Rattle.grid.specs.declared.heading.Heading.{Heading}
 use Rattle.grid.specs.declared.heading.Heading.TheVariants.{Stay, Up, Right, Down, Left}
 use Rattle.grid.specs.declared.square.Square.{Square}
 use Rattle.grid.specs.Headings.{opposite}
-use Rattle.grid.specs.Squares.{square, OnFloor, Remains, led}
+use Rattle.grid.specs.Squares.{OnFloor, Remains, led}
 use Rattle.deck.specs.Decks.{DeckView, Sound, Lawful, end}
 use Rattle.motion.proofs.Squares.{same_square}
 

@@ -1,5 +1,5 @@
 -- The five stages of a good plan, one after the other, carry it out.
-use Rattle.std.proofs.Common.{◌≡◌, ℕ, suc, ◌+◌, ◌-◌, ◌*◌, ◌/◌, ◌%◌, ◌<◌, ◌≤◌, sym, ap, ◌∙◌, inl, inr, add-one, arith}
+use Rattle.std.proofs.Common.{◌≡◌, ℕ, suc, ◌+◌, ◌*◌, ◌/◌, ◌%◌, ◌<◌, ◌≤◌, sym, ap, ◌∙◌, inl, inr, add-one, arith}
 use native.Mathlib.Decide.{dec_lt}
 use Rattle.grid.specs.declared.slot.Slot.{Slot}
 use Rattle.grid.specs.Squares.{square}

@@ -2,6 +2,8 @@
 //
 // For: the crates that make plans and carry them out. Promises: the theorem on `longest_plan`, of every good plan;
 // specs/ are the pages to read, in this order: Runs, Motions, Plans, Carrying. Rests on: grid, and deck's lawful moves.
+#![tactic(auto)]
+
 ghost use Rattle.std.specs.Prelude.{◌≡◌};
 ghost use Rattle.motion.specs.Carrying.{longest, PlansAreCarried};
 

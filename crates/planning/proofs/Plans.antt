@@ -1,6 +1,5 @@
 -- The plan of an order: its goals are slots, it is a shuffle, and there is one at most.
-use Rattle.std.proofs.Common.{◌≡◌, ℕ, zero, suc, ◌+◌, ◌*◌, ◌%◌, ◌<◌, ◌≤◌, max, Bool, cond, eqb, ◌⊎◌, List, sym, refl, ap, ◌∙◌, subst, inl, inr, ⊎_elim, mul-le-mul_right, mul_comm, add-mul, one-mul, arith}
-use Rattle.std.proofs.lemmas.Bool.{cases_eq, cases_lt}
+use Rattle.std.proofs.Common.{◌≡◌, ℕ, zero, suc, ◌+◌, ◌*◌, ◌%◌, ◌<◌, ◌≤◌, max, Bool, cond, eqb, List, sym, refl, ap, ◌∙◌, subst, mul-le-mul_right, mul_comm, add-mul, one-mul, arith}
 use Rattle.grid.specs.declared.slot.Slot.{Slot}
 use Rattle.grid.specs.declared.square.Square.{Square}
 use Rattle.grid.specs.Sides.{row_count, slot_count}
@@ -12,11 +11,11 @@ use Rattle.matchings.proofs.Counting.{holder}
 use Rattle.matchings.proofs.Regularity.{never_blocks}
 use Rattle.matchings.proofs.Unique.{first_unique}
 use Rattle.motion.specs.Runs.{away}
-use Rattle.motion.specs.Plans.{Plan, start_row, start_bay, goal_row, goal_bay, start_column, goal_column, greatest, furthest, run_steps, whole, plan_steps}
-use Rattle.motion.specs.Carrying.{InSlots, Good, Carried}
+use Rattle.motion.specs.Plans.{Plan, start_row, start_bay, goal_row, goal_bay, start_column, goal_column, greatest, furthest, run_steps, whole}
+use Rattle.motion.specs.Carrying.{Good}
 use Rattle.motion.proofs.Whole.{plans_are_carried}
-use Rattle.planning.specs.Assignments.{Assignment, AssignedGoals}
-use Rattle.planning.specs.MiddleRows.{allows, Round, MiddleRows, FirstMatchings}
+use Rattle.planning.specs.Assignments.{AssignedGoals}
+use Rattle.planning.specs.MiddleRows.{allows, Round, MiddleRows}
 use Rattle.planning.specs.Planned.{Planned, Apart, Agreeing, Permutes, Shuffle}
 use Rattle.planning.specs.Theorems.{SameSteps, PlanIsUnique, Shuffled, PlanShuffles, MatchingsNeverBlock}
 use Rattle.planning.proofs.Slots.{Slots, same_slot, slots_of, in_slots, cell_same, row_below, one_number}

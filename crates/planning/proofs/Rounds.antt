@@ -1,9 +1,9 @@
 -- What the rounds say together: who has row k, how many are left, and that other rows do not matter.
 use Rattle.std.proofs.Common.{◌≡◌, ℕ, zero, suc, ◌+◌, ◌-◌, ◌*◌, ◌<◌, ◌≤◌, Bool, true, false, ◌&&◌, eqb, ltb, leb, ◌≢◌, ◌⊎◌, List, sym, refl, ap, ◌∙◌, subst, inl, inr, ⊎_elim, arith}
-use Rattle.std.proofs.lemmas.Bool.{cases_Bool, cases_eq, cases_lt, eq-eqb, eqb-true, le-leb, lt-leb, and_from, and_left, and_right}
+use Rattle.std.proofs.lemmas.Bool.{cases_Bool, cases_lt, eq-eqb, eqb-true, le-leb, lt-leb, and_from, and_left, and_right}
 use Rattle.grid.specs.declared.slot.Slot.{Slot}
 use Rattle.matchings.specs.Matchings.{◌!◌, count, Perfect, First}
-use Rattle.matchings.specs.Regular.{total, RegularCounts}
+use Rattle.matchings.specs.Regular.{RegularCounts}
 use Rattle.matchings.proofs.Counting.{holder}
 use Rattle.motion.specs.Plans.{Plan, start_row, start_bay, goal_row, goal_bay}
 use Rattle.planning.specs.MiddleRows.{waits, waiting, allows, Round}

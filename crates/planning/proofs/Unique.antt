@@ -1,12 +1,10 @@
 -- A rule and the squares of the carriers have at most one plan.
-use Rattle.std.proofs.Common.{◌≡◌, ℕ, zero, suc, ◌+◌, ◌*◌, ◌<◌, ◌≤◌, Bool, ◌⊎◌, List, sym, refl, ap, ◌∙◌, subst, inl, inr, ⊎_elim, arith}
+use Rattle.std.proofs.Common.{◌≡◌, ℕ, zero, suc, ◌+◌, ◌<◌, ◌≤◌, List, sym, ap, ◌∙◌, subst, inl, inr, ⊎_elim, arith}
 use Rattle.std.proofs.lemmas.Bool.{cases_eq}
-use Rattle.grid.specs.declared.slot.Slot.{Slot}
-use Rattle.grid.specs.Sides.{row_count}
 use Rattle.matchings.specs.Matchings.{◌!◌, First}
 use Rattle.matchings.proofs.Unique.{first_unique}
 use Rattle.motion.specs.Plans.{Plan, start_row, start_bay, goal_bay}
-use Rattle.planning.specs.MiddleRows.{allows, Round, MiddleRows, FirstMatchings}
+use Rattle.planning.specs.MiddleRows.{allows, Round}
 use Rattle.planning.proofs.Slots.{Slots}
 use Rattle.planning.proofs.Rounds.{SameEnds, ends_turned, Agree, agree_turned, slots_agree, first_moved, start_rows, start_bays, goal_bays, into, out}
 

@@ -6,6 +6,8 @@
 // are the pages to read, in this order: Assignments, MiddleRows, Planned, Theorems. The lemmas that need no code of the
 // planner stand here, so that an edit of it does not prove them anew. Rests on: grid, rules, matchings, and motion's
 // theorem.
+#![tactic(auto)]
+
 ghost use Rattle.std.specs.Prelude.{◌≡◌};
 ghost use Rattle.grid.specs.Sides.{row_count};
 ghost use Rattle.planning.specs.Theorems.{PlanIsUnique, PlanShuffles, MatchingsNeverBlock};

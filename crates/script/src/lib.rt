@@ -4,6 +4,8 @@
 // For: the floor, whose steps are lines too, and the programs. Promises: specs/Lines.antt says which bytes each line is,
 // specs/Pasting.antt what becomes of the buffer. No call allocates or requires anything; the drafts, which do, are not
 // seen outside. Rests on: chain, for the refusals.
+#![tactic(auto)]
+
 mod draft;
 pub mod lines;
 pub mod room;

@@ -1,7 +1,5 @@
-use Rattle.std.proofs.Common.{◌≡◌, ◌+◌, ◌<◌, ◌≤◌, true, false, sym, ap, ◌∙◌, arith, rules, eqb-true}
+use Rattle.std.proofs.Common.{◌≡◌, sym, ap, ◌∙◌, arith, rules, eqb-true}
 use borrow.Author.Tests.{eqb-false}
-use Rattle.course.specs.declared.stage.Stage.TheVariants.{Turn, TurnBack}
-use Rattle.motion.specs.Runs.{away, run_heading}
 use Rattle.course.specs.Upright.{upright_heading, on_deck}
 use Rattle.course.proofs.Headings.{still, goes_aside, goes_along, goes_back, done, in_run, seen}
 use Rattle.course.proofs.route.Route.heading.Goals as goal

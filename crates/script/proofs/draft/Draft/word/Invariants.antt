@@ -1,4 +1,4 @@
-use Rattle.std.proofs.Common.{◌≡◌, ◌+◌, ◌++◌, length, take}
+use Rattle.std.proofs.Common.{◌≡◌, ◌+◌, ◌++◌, take}
 use Rattle.script.specs.Drafts.{draft_text}
 use Rattle.script.proofs.draft.Draft.word.Given as goal
 
