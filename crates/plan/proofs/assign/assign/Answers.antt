@@ -4,20 +4,20 @@ use Rattle.plan.proofs.Sizes.{slots_fit}
 use Rattle.plan.proofs.Made.{take_fit}
 use Rattle.plan.proofs.assign.assign.Goals as goal
 
-pub slice-bounds-assignment-end : goal.slice-bounds-assignment-end
-slice-bounds-assignment-end g c = let s = c.args.sides in let z = slots_fit s.height s.width s.tall s.wide in omega (arith, c.requires.size)
+pub slice_bounds-assignment-end : goal.slice_bounds-assignment-end
+slice_bounds-assignment-end g c = let s = c.args.sides in let z = slots_fit s.height s.width s.tall s.wide in omega (arith, c.requires.size)
 
-pub slice-bounds-assign-in-end : goal.slice-bounds-assign-in-end
-slice-bounds-assign-in-end g c = let s = c.args.sides in let z = slots_fit s.height s.width s.tall s.wide in take_fit _ _ (omega (arith, c.requires.size))
+pub slice_bounds-assign_in-end : goal.slice_bounds-assign_in-end
+slice_bounds-assign_in-end g c = let s = c.args.sides in let z = slots_fit s.height s.width s.tall s.wide in take_fit _ _ (omega (arith, c.requires.size))
 
-pub slice-bounds-block-end : goal.slice-bounds-block-end
-slice-bounds-block-end g c = let s = c.args.sides in let z = slots_fit s.height s.width s.tall s.wide in omega (arith, c.requires.size)
+pub slice_bounds-block-end : goal.slice_bounds-block-end
+slice_bounds-block-end g c = let s = c.args.sides in let z = slots_fit s.height s.width s.tall s.wide in omega (arith, c.requires.size)
 
-pub slice-bounds-assign-in-end-2 : goal.slice-bounds-assign-in-end-2
-slice-bounds-assign-in-end-2 g c = let s = c.args.sides in let z = slots_fit s.height s.width s.tall s.wide in take_fit _ _ (omega (arith, c.requires.size))
+pub slice_bounds-assign_in-end-2 : goal.slice_bounds-assign_in-end-2
+slice_bounds-assign_in-end-2 g c = let s = c.args.sides in let z = slots_fit s.height s.width s.tall s.wide in take_fit _ _ (omega (arith, c.requires.size))
 
-pub assign-in-requires : goal.assign-in-requires
-assign-in-requires g c =
+pub assign_in-requires : goal.assign_in-requires
+assign_in-requires g c =
     let s = c.args.sides in
     let z = slots_fit s.height s.width s.tall s.wide in
     let fit : length c.args.routes.now ≤ slot_count greatest_side greatest_side = omega (arith, c.requires.size) in

@@ -3,8 +3,8 @@ use Rattle.std.proofs.lemmas.Bool.{true≢false}
 use Rattle.plan.proofs.Made.{first_inj, assigned_of, blocked_of}
 use Rattle.plan.proofs.assign.assign_in.Goals as goal
 
-pub first-matching-requires : goal.first-matching-requires
-first-matching-requires g c =
+pub first_matching-requires : goal.first_matching-requires
+first_matching-requires g c =
     let e = ap (λ x. (g.R.Rule.meaning x).slots) c.of-admission.ensures in
     record {
       size = (omega (arith, e, c.requires.rule, c.requires.size), (omega (arith, e, c.requires.rule, c.requires.size), omega (arith, e, c.requires.rule, c.requires.size)));
@@ -12,11 +12,11 @@ first-matching-requires g c =
       clear = λ k l. c.requires.clear k (omega (arith, e, c.requires.rule, c.requires.size));
     }
 
-pub set-goals-requires : goal.set-goals-requires
-set-goals-requires g c =
+pub set_goals-requires : goal.set_goals-requires
+set_goals-requires g c =
     record {
-      size = (omega (arith, c.requires.size, c.first-matching.auto.mate), omega (arith, c.requires.size, c.first-matching.auto.mate));
-      inj = first_inj _ _ _ c.in-default.ensures.answer;
+      size = (omega (arith, c.requires.size, c.first_matching.auto.mate), omega (arith, c.requires.size, c.first_matching.auto.mate));
+      inj = first_inj _ _ _ c.in_default.ensures.answer;
     }
 
 pub returns-in-Blocked : goal.returns-in-Blocked
@@ -26,7 +26,7 @@ returns-in-Blocked g c =
       starts = record { long = refl; start = λ i. refl };
       assigned = blocked_of (g.R.Rule.meaning c.of-admission.result.rule.now) (g.R.Rule.meaning c.args.rule.now) _ _ _ e (ap (λ x. (g.R.Rule.meaning x).slots) c.of-admission.ensures ∙ c.requires.rule) c.in-Blocked.ensures.answer;
       refused = λ q. refl;
-      marks = c.first-matching.ensures.marks;
+      marks = c.first_matching.ensures.marks;
     }
 
 pub returns : goal.returns
@@ -34,10 +34,10 @@ returns g c =
     let e = ap g.R.Rule.meaning c.of-admission.ensures in
     let s = ap (λ x. (g.R.Rule.meaning x).slots) c.of-admission.ensures in
     record {
-      starts = c.set-goals.ensures.starts;
+      starts = c.set_goals.ensures.starts;
       assigned =
-          assigned_of (g.R.Rule.meaning c.of-admission.result.rule.now) (g.R.Rule.meaning c.args.rule.now) _ _ e (let z = c.set-goals.ensures.starts.long in omega (arith, s, c.requires.rule, c.requires.size))
-          c.in-default.ensures.answer c.set-goals.ensures.goals;
+          assigned_of (g.R.Rule.meaning c.of-admission.result.rule.now) (g.R.Rule.meaning c.args.rule.now) _ _ e (let z = c.set_goals.ensures.starts.long in omega (arith, s, c.requires.rule, c.requires.size))
+          c.in_default.ensures.answer c.set_goals.ensures.goals;
       refused = λ q. absurd (true≢false q);
-      marks = c.first-matching.ensures.marks;
+      marks = c.first_matching.ensures.marks;
     }

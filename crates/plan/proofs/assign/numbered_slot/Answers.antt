@@ -3,8 +3,8 @@ use Rattle.std.proofs.lemmas.Nat.{div_below}
 use Rattle.grid.specs.Sides.{row_count}
 use Rattle.plan.proofs.assign.numbered_slot.Goals as goal
 
-pub overflow-cast-result : goal.overflow-cast-result
-overflow-cast-result c =
+pub overflow_cast-result : goal.overflow_cast-result
+overflow_cast-result c =
     let s = c.args.sides in
     let wide = s.wide in
     let tall = s.tall in

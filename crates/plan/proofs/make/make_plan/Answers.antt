@@ -5,8 +5,8 @@ use Rattle.plan.proofs.Sizes.{bays_fit}
 use Rattle.plan.proofs.Made.{whole_of, starts_stand, made, made_shuffles}
 use Rattle.plan.proofs.make.make_plan.Goals as goal
 
-pub give-middle-rows-requires : goal.give-middle-rows-requires
-give-middle-rows-requires g c =
+pub give_middle_rows-requires : goal.give_middle_rows-requires
+give_middle_rows-requires g c =
     let s = c.args.sides in
     let A = c.if-not-assign.ensures in
     let few = bays_fit s.height s.width s.tall in
@@ -27,7 +27,7 @@ pub returns : goal.returns
 returns g c =
     let s = c.args.sides in
     let A = c.if-not-assign.ensures in
-    let M = c.give-middle-rows.ensures in
+    let M = c.give_middle_rows.ensures in
     record {
       answer = (
         starts_stand s _ _ _ A.starts c.requires.size.0 c.requires.starts A.assigned _ M.ends M.rows,

@@ -13,8 +13,8 @@ bounds-counts-route c =
     let a = cell_in _ _ _ i.0 i.1 in
     omega arith
 
-pub overflow-add-counts-then-route-row : goal.overflow-add-counts-then-route-row
-overflow-add-counts-then-route-row c =
+pub overflow_add-counts-then-route-row : goal.overflow_add-counts-then-route-row
+overflow_add-counts-then-route-row c =
     let rs = c.args.routes.now in
     let i = c.requires.bays c.loop-c.c (omega arith) in
     let a = c.loop-c.invariant _ _ i.0 i.1 in

@@ -10,8 +10,8 @@ use Rattle.floor.proofs.record.Floor.line.Goals as goal
 pub returns-then-self-total : goal.returns-then-self-total
 returns-then-self-total c = (LineRefused.no_next_move (omega arith), refl)
 
-pub returns-then-not-has-room : goal.returns-then-not-has-room
-returns-then-not-has-room c = (LineRefused.no_room (omega arith) (omega (arith, c.if-not-has-room.ensures)), refl)
+pub returns-then-not-has_room : goal.returns-then-not-has_room
+returns-then-not-has_room c = (LineRefused.no_room (omega arith) (omega (arith, c.if-not-has_room.ensures)), refl)
 
 pub returns : goal.returns
 returns c =
@@ -19,11 +19,11 @@ returns c =
     let at = c.at-stage.result in
     let n : ℕ = c.slots-count.result + 1 in
     let bytes =
-    letters_whole f c.write-letters.new.out c.deref.result.now at.0 at.1 c.deref.ensures.value
+    letters_whole f c.write_letters.new.out c.deref.result.now at.0 at.1 c.deref.ensures.value
     (c.at-stage.ensures.alike (plan_in f) (staged f))
-    c.write-letters.ensures in
+    c.write_letters.ensures in
     let long : n ≡ length (line_bytes (shown f)) = simp (length-append, length-map-range_with_len) (omega arith) in (
       omega arith,
       omega arith,
-      pasted c.args.out.now c.write-letters.new.out (line_bytes (shown f)) c.args.at n c.if-not-has-room.ensures bytes long,
+      pasted c.args.out.now c.write_letters.new.out (line_bytes (shown f)) c.args.at n c.if-not-has_room.ensures bytes long,
     )

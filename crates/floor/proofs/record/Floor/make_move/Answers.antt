@@ -7,8 +7,8 @@ use Rattle.floor.proofs.Records.{staged, few_slots, headings_whole}
 use Rattle.floor.proofs.Moves.{moved_gone}
 use Rattle.floor.proofs.record.Floor.make_move.Goals as goal
 
-pub slice-bounds-all-end : goal.slice-bounds-all-end
-slice-bounds-all-end g c =
+pub slice_bounds-all-end : goal.slice_bounds-all-end
+slice_bounds-all-end g c =
     let f = c.args.self.now in
     omega (arith, few_slots f.sides.height f.sides.width (kept f).sides)
 
@@ -17,7 +17,7 @@ returns g c =
     let f = c.args.self.now in
     let v = g.D.Deck.view c.args.deck.now in
     let w = g.D.Deck.view c.drive.new.deck in
-    let hs = c.write-headings.new.headings in
+    let hs = c.write_headings.new.headings in
     let p = plan_in f in
     let at = c.at-stage.result in
     let k = kept f in
@@ -29,4 +29,4 @@ returns g c =
     (λ n l. c.requires.placed n (omega arith))
     (headings_whole f c.args.way hs c.deref.result.now at.0 c.args.step at.1 c.deref.ensures.value
     (c.at-stage.ensures.alike p (staged f))
-    c.write-headings.ensures)
+    c.write_headings.ensures)

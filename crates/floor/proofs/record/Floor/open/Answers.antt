@@ -15,49 +15,49 @@ use Rattle.floor.proofs.Records.{few_slots, paid}
 use Rattle.floor.proofs.Openings.{at_sides, on_slots, rest_good, rest_opening}
 use Rattle.floor.proofs.record.Floor.open.Goals as goal
 
-pub returns-in-default : goal.returns-in-default
-returns-in-default g c = record { opened = OpenRefused.bad_sides c.in-default.ensures; every_chain = tt }
+pub returns-in_default : goal.returns-in_default
+returns-in_default g c = record { opened = OpenRefused.bad_sides c.in_default.ensures; every_chain = tt }
 
-pub returns-then-not-is-sized : goal.returns-then-not-is-sized
-returns-then-not-is-sized g c =
+pub returns-then-not-is_sized : goal.returns-then-not-is_sized
+returns-then-not-is_sized g c =
     let s = c.in-Some.sides in
     let v = g.D.Deck.view c.args.deck.now in
     record {
       opened =
           at_sides s c.args.height c.args.width c.in-Some.ensures (λ h w. OpenRefused h w v WrongDeck)
-          (OpenRefused.wrong_deck (s.tall, s.wide) c.if-not-is-sized.ensures);
+          (OpenRefused.wrong_deck (s.tall, s.wide) c.if-not-is_sized.ensures);
       every_chain = tt;
     }
 
-pub slice-bounds-all-end : goal.slice-bounds-all-end
-slice-bounds-all-end g c =
+pub slice_bounds-all-end : goal.slice_bounds-all-end
+slice_bounds-all-end g c =
     let s = c.in-Some.sides in
     omega (arith, few_slots s.height s.width (s.tall, s.wide))
 
-pub returns-then-not-rest-all : goal.returns-then-not-rest-all
-returns-then-not-rest-all g c =
+pub returns-then-not-rest_all : goal.returns-then-not-rest_all
+returns-then-not-rest_all g c =
     let s = c.in-Some.sides in
     let v = g.D.Deck.view c.args.deck.now in
     record {
       opened =
           at_sides s c.args.height c.args.width c.in-Some.ensures (λ h w. OpenRefused h w v OffSlot)
-          (OpenRefused.off_slot (s.tall, s.wide) c.if-not-is-sized.ensures c.if-not-rest-all.ensures);
+          (OpenRefused.off_slot (s.tall, s.wide) c.if-not-is_sized.ensures c.if-not-rest_all.ensures);
       every_chain = tt;
     }
 
-pub invariant-of-result : goal.invariant-of-result
-invariant-of-result g c =
+pub invariant_of-result : goal.invariant_of-result
+invariant_of-result g c =
     let s = c.in-Some.sides in
     let v = g.D.Deck.view c.args.deck.now in
     let items = vec_items c.in-Ok.routes in
     let long : length items ≡ slot_count s.height s.width = search rules in
     let all : AllRest s.height s.width v (slot_count s.height s.width) items =
-    subst (AllRest s.height s.width v (slot_count s.height s.width)) (sym c.in-Ok.ensures) c.if-not-rest-all.ensures in
+    subst (AllRest s.height s.width v (slot_count s.height s.width)) (sym c.in-Ok.ensures) c.if-not-rest_all.ensures in
     let staged : Staged (plan_of s.height s.width items) c.of-stages.result =
     subst (λ (rs : List Route). Staged (plan_of s.height s.width rs) c.of-stages.result) c.deref.ensures.value
     (c.of-stages.ensures s.height s.width) in
     paid s.height s.width items c.of-stages.result 0 long
-    (rest_good s.height s.width v items c.if-not-is-sized.ensures (g.D.Deck.sound c.args.deck.now) long all)
+    (rest_good s.height s.width v items c.if-not-is_sized.ensures (g.D.Deck.sound c.args.deck.now) long all)
     staged (omega arith)
 
 pub returns-in-Ok : goal.returns-in-Ok
@@ -67,7 +67,7 @@ returns-in-Ok g c =
     let items = vec_items c.in-Ok.routes in
     let long : length items ≡ slot_count s.height s.width = search rules in
     let all : AllRest s.height s.width v (slot_count s.height s.width) items =
-    subst (AllRest s.height s.width v (slot_count s.height s.width)) (sym c.in-Ok.ensures) c.if-not-rest-all.ensures in
+    subst (AllRest s.height s.width v (slot_count s.height s.width)) (sym c.in-Ok.ensures) c.if-not-rest_all.ensures in
     let staged : Staged (plan_of s.height s.width items) c.of-stages.result =
     subst (λ (rs : List Route). Staged (plan_of s.height s.width rs) c.of-stages.result) c.deref.ensures.value
     (c.of-stages.ensures s.height s.width) in
@@ -77,8 +77,8 @@ returns-in-Ok g c =
     at_sides s c.args.height c.args.width c.in-Some.ensures
     (λ h w. GoodSides h w × Sized h w v × Opening h w v view) (
       (s.tall, s.wide),
-      c.if-not-is-sized.ensures,
-      rest_opening s.height s.width v items c.if-not-is-sized.ensures sound long all c.of-stages.result staged,
+      c.if-not-is_sized.ensures,
+      rest_opening s.height s.width v items c.if-not-is_sized.ensures sound long all c.of-stages.result staged,
     ) in
     record {
       opened = opened;
@@ -93,7 +93,7 @@ returns-in-Err g c =
       opened =
           subst (OpenRefused c.args.height c.args.width v) (sym c.in-Err.ensures)
           (at_sides s c.args.height c.args.width c.in-Some.ensures (λ h w. OpenRefused h w v NoMemory)
-          (OpenRefused.no_memory (s.tall, s.wide) c.if-not-is-sized.ensures
-          (on_slots s.height s.width v _ c.if-not-rest-all.ensures)));
+          (OpenRefused.no_memory (s.tall, s.wide) c.if-not-is_sized.ensures
+          (on_slots s.height s.width v _ c.if-not-rest_all.ensures)));
       every_chain = tt;
     }

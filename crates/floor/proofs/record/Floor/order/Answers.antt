@@ -13,24 +13,24 @@ use Rattle.floor.proofs.Records.{few_slots, staged}
 use Rattle.floor.proofs.Orders.{clean_whole, clean_front, starts_in_slots, starts_shown, planned_at}
 use Rattle.floor.proofs.record.Floor.order.Goals as goal
 
-pub returns-then-not-is-at-rest : goal.returns-then-not-is-at-rest
-returns-then-not-is-at-rest g c =
-    record { ordered = (OrderRefused.unfinished c.if-not-is-at-rest.ensures, refl); refused = refl; marks = refl }
+pub returns-then-not-is_at_rest : goal.returns-then-not-is_at_rest
+returns-then-not-is_at_rest g c =
+    record { ordered = (OrderRefused.unfinished c.if-not-is_at_rest.ensures, refl); refused = refl; marks = refl }
 
 pub returns-then-marks-slots : goal.returns-then-marks-slots
 returns-then-marks-slots g c =
-    record { ordered = (OrderRefused.few_marks c.if-not-is-at-rest.ensures (omega arith), refl); refused = refl; marks = refl }
+    record { ordered = (OrderRefused.few_marks c.if-not-is_at_rest.ensures (omega arith), refl); refused = refl; marks = refl }
 
-pub returns-then-not-are-clean : goal.returns-then-not-are-clean
-returns-then-not-are-clean g c =
+pub returns-then-not-are_clean : goal.returns-then-not-are_clean
+returns-then-not-are_clean g c =
     let f = c.args.self.now in
     let n = slot_count f.sides.height f.sides.width in
     let room : n ≤ length c.args.marks.now = omega arith in
     let same : c.slots-slots.result - 0 ≡ n = omega arith in
     record {
       ordered = (
-        OrderRefused.dirty_marks c.if-not-is-at-rest.ensures room
-            (λ clean. c.if-not-are-clean.ensures (clean_front c.args.marks.now n (c.slots-slots.result - 0) same room clean)),
+        OrderRefused.dirty_marks c.if-not-is_at_rest.ensures room
+            (λ clean. c.if-not-are_clean.ensures (clean_front c.args.marks.now n (c.slots-slots.result - 0) same room clean)),
         refl,
       );
       refused = refl;
@@ -45,8 +45,8 @@ returns-then-not-stands g c =
     let same : c.slots-slots.result - 0 ≡ n = omega arith in
     record {
       ordered = (
-        OrderRefused.astray c.if-not-is-at-rest.ensures room
-            (clean_whole c.args.marks.now n (c.slots-slots.result - 0) same room c.if-not-are-clean.ensures)
+        OrderRefused.astray c.if-not-is_at_rest.ensures room
+            (clean_whole c.args.marks.now n (c.slots-slots.result - 0) same room c.if-not-are_clean.ensures)
             c.if-not-stands.ensures,
         refl,
       );
@@ -54,18 +54,18 @@ returns-then-not-stands g c =
       marks = refl;
     }
 
-pub returns-then-not-is-for : goal.returns-then-not-is-for
-returns-then-not-is-for g c =
+pub returns-then-not-is_for : goal.returns-then-not-is_for
+returns-then-not-is_for g c =
     let f = c.args.self.now in
     let n = slot_count f.sides.height f.sides.width in
     let room : n ≤ length c.args.marks.now = omega arith in
     let same : c.slots-slots.result - 0 ≡ n = omega arith in
     let wrong : RuleFor n (g.R.Rule.meaning c.args.rule.now) → ⊥ =
-    subst (λ (k : ℕ). RuleFor k (g.R.Rule.meaning c.args.rule.now) → ⊥) c.slots-slots.ensures c.if-not-is-for.ensures in
+    subst (λ (k : ℕ). RuleFor k (g.R.Rule.meaning c.args.rule.now) → ⊥) c.slots-slots.ensures c.if-not-is_for.ensures in
     record {
       ordered = (
-        OrderRefused.wrong_rule c.if-not-is-at-rest.ensures room
-            (clean_whole c.args.marks.now n (c.slots-slots.result - 0) same room c.if-not-are-clean.ensures)
+        OrderRefused.wrong_rule c.if-not-is_at_rest.ensures room
+            (clean_whole c.args.marks.now n (c.slots-slots.result - 0) same room c.if-not-are_clean.ensures)
             c.if-not-stands.ensures
             wrong,
         refl,
@@ -74,26 +74,26 @@ returns-then-not-is-for g c =
       marks = refl;
     }
 
-pub slice-bounds-all-end : goal.slice-bounds-all-end
-slice-bounds-all-end g c =
+pub slice_bounds-all-end : goal.slice_bounds-all-end
+slice_bounds-all-end g c =
     let f = c.args.self.now in
     omega (arith, few_slots f.sides.height f.sides.width (kept f).sides)
 
-pub make-plan-requires : goal.make-plan-requires
-make-plan-requires g c =
+pub make_plan-requires : goal.make_plan-requires
+make_plan-requires g c =
     let f = c.args.self.now in
     let n = slot_count f.sides.height f.sides.width in
-    let starts = c.write-starts.new.starts in
+    let starts = c.write_starts.new.starts in
     let room : n ≤ length c.args.marks.now = omega arith in
     let same : c.slots-slots.result - 0 ≡ n = omega arith in
     let long : length starts ≡ n = search rules in
-    let clean = clean_whole c.args.marks.now n (c.slots-slots.result - 0) same room c.if-not-are-clean.ensures in
+    let clean = clean_whole c.args.marks.now n (c.slots-slots.result - 0) same room c.if-not-are_clean.ensures in
     let here : (x : ℕ) → x < length (vec_items f.routes) → (route_at starts x).start ≡ present f.steps_done (route_at (vec_items f.routes) x) =
     subst
     (λ (rs : List Route). (x : ℕ) → x < length rs → (route_at starts x).start ≡ present f.steps_done (route_at rs x))
-    c.deref.ensures.value c.write-starts.ensures in
+    c.deref.ensures.value c.write_starts.ensures in
     record {
-      rule = subst (λ (k : ℕ). RuleFor k (g.R.Rule.meaning c.args.rule.now)) c.slots-slots.ensures c.if-not-is-for.ensures;
+      rule = subst (λ (k : ℕ). RuleFor k (g.R.Rule.meaning c.args.rule.now)) c.slots-slots.ensures c.if-not-is_for.ensures;
       size = (long, omega arith);
       clear = λ k l. clean k (omega arith);
       starts = starts_in_slots f starts long here;
@@ -107,37 +107,37 @@ returns-in-Made g c =
     let n = slot_count h w in
     let v = g.D.Deck.view c.args.deck.now in
     let r = g.R.Rule.meaning c.args.rule.now in
-    let starts = c.write-starts.new.starts in
-    let routes = c.make-plan.new.routes in
-    let after = c.take-on.new.self in
+    let starts = c.write_starts.new.starts in
+    let routes = c.make_plan.new.routes in
+    let after = c.take_on.new.self in
     let room : n ≤ length c.args.marks.now = omega arith in
     let same : c.slots-slots.result - 0 ≡ n = omega arith in
     let long : length starts ≡ n = search rules in
     let here : (x : ℕ) → x < length (vec_items f.routes) → (route_at starts x).start ≡ present f.steps_done (route_at (vec_items f.routes) x) =
     subst
     (λ (rs : List Route). (x : ℕ) → x < length rs → (route_at starts x).start ≡ present f.steps_done (route_at rs x))
-    c.deref.ensures.value c.write-starts.ensures in
+    c.deref.ensures.value c.write_starts.ensures in
     let answer = c.in-Made.ensures.answer in
     let planned : Planned r h w v.square (plan_of h w routes) =
     planned_at r h w (start_square starts) v.square (plan_of h w routes) answer.1
-    (λ x l. starts_shown f starts long here v c.if-not-is-at-rest.ensures c.if-not-stands.ensures x (omega (arith, answer.0.long))) in
+    (λ x l. starts_shown f starts long here v c.if-not-is_at_rest.ensures c.if-not-stands.ensures x (omega (arith, answer.0.long))) in
     let plan-same : plan_in after ≡ plan_of h w routes =
-    ap (λ (s : Sides). plan_of s.height s.width (vec_items after.routes)) c.take-on.ensures.sides
-    ∙ ap (λ (rs : List Route). plan_of h w rs) c.take-on.ensures.routes in
+    ap (λ (s : Sides). plan_of s.height s.width (vec_items after.routes)) c.take_on.ensures.sides
+    ∙ ap (λ (rs : List Route). plan_of h w rs) c.take_on.ensures.routes in
     record {
       ordered = record {
-        at_rest = c.if-not-is-at-rest.ensures;
+        at_rest = c.if-not-is_at_rest.ensures;
         enough = room;
-        clean = clean_whole c.args.marks.now n (c.slots-slots.result - 0) same room c.if-not-are-clean.ensures;
+        clean = clean_whole c.args.marks.now n (c.slots-slots.result - 0) same room c.if-not-are_clean.ensures;
         stands = c.if-not-stands.ensures;
-        rule_for = subst (λ (k : ℕ). RuleFor k r) c.slots-slots.ensures c.if-not-is-for.ensures;
-        height = ap (λ (s : Sides). s.height) c.take-on.ensures.sides;
-        width = ap (λ (s : Sides). s.width) c.take-on.ensures.sides;
+        rule_for = subst (λ (k : ℕ). RuleFor k r) c.slots-slots.ensures c.if-not-is_for.ensures;
+        height = ap (λ (s : Sides). s.height) c.take_on.ensures.sides;
+        width = ap (λ (s : Sides). s.width) c.take_on.ensures.sides;
         planned = subst (λ (p : Plan). Planned r h w v.square p) (sym plan-same) planned;
         answer = c.total.ensures.whole (plan_in after) (staged after);
         length = sym c.total.ensures.sum;
-        done = c.take-on.ensures.done;
-        orders = c.take-on.ensures.orders;
+        done = c.take_on.ensures.done;
+        orders = c.take_on.ensures.orders;
       };
       refused = tt;
       marks = c.in-Made.ensures.marks;
@@ -151,10 +151,10 @@ returns-in-Unfillable g c =
     let same : c.slots-slots.result - 0 ≡ n = omega arith in
     record {
       ordered = (
-        OrderRefused.unfillable c.if-not-is-at-rest.ensures room
-            (clean_whole c.args.marks.now n (c.slots-slots.result - 0) same room c.if-not-are-clean.ensures)
+        OrderRefused.unfillable c.if-not-is_at_rest.ensures room
+            (clean_whole c.args.marks.now n (c.slots-slots.result - 0) same room c.if-not-are_clean.ensures)
             c.if-not-stands.ensures
-            (subst (λ (k : ℕ). RuleFor k (g.R.Rule.meaning c.args.rule.now)) c.slots-slots.ensures c.if-not-is-for.ensures)
+            (subst (λ (k : ℕ). RuleFor k (g.R.Rule.meaning c.args.rule.now)) c.slots-slots.ensures c.if-not-is_for.ensures)
             (λ x. c.in-Unfillable.ensures.answer.1.none x.0 x.1),
         refl,
       );

@@ -7,7 +7,7 @@ returns g c =
     let f = c.args.self.now in
     let v = g.D.Deck.view c.args.deck.now in
     let at = c.at-stage.result in
-    stands_when c.are-at.result f v c.deref.result.now at.0 at.1 c.deref.ensures.value
-    c.if-not-is-sized.ensures
+    stands_when c.are_at.result f v c.deref.result.now at.0 at.1 c.deref.ensures.value
+    c.if-not-is_sized.ensures
     (c.at-stage.ensures.alike (plan_in f) (staged f))
-    c.are-at.ensures
+    c.are_at.ensures

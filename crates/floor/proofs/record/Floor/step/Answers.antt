@@ -10,9 +10,9 @@ returns-then-self-total g c = (StepRefused.no_next_move (omega arith) (unchanged
 pub returns-then-not-stands : goal.returns-then-not-stands
 returns-then-not-stands g c = (StepRefused.astray (omega arith) c.if-not-stands.ensures (unchanged _), refl)
 
-pub returns-then-is-err : goal.returns-then-is-err
-returns-then-is-err g c =
+pub returns-then-is_err : goal.returns-then-is_err
+returns-then-is_err g c =
     let v = g.D.Deck.view c.args.deck.now in
-    let w = g.D.Deck.view c.make-move.new.deck in
-    let why = gone_err v w _ c.make-move.result c.if-is-err.ensures.value c.make-move.ensures in
+    let w = g.D.Deck.view c.make_move.new.deck in
+    let why = gone_err v w _ c.make_move.result c.if-is_err.ensures.value c.make_move.ensures in
     (StepRefused.go_refused (omega arith) c.if-not-stands.ensures why.0 why.1, refl)

@@ -14,4 +14,4 @@ loop-c-preserved g c =
     below_more _ _
     (λ k l. let ne : k ≢ i = omega arith in rw get_or-set_other (c.loop-c.invariant k l))
     (let lt : i < length c.loop-c.routes = omega arith in
-    rw get_or-set_same (rests_in _ _ _ i c.in-Some.slot c.rest-in.result c.rest-in.ensures c.in-Some.ensures))
+    rw get_or-set_same (rests_in _ _ _ i c.in-Some.slot c.rest_in.result c.rest_in.ensures c.in-Some.ensures))

@@ -10,8 +10,8 @@ bounds-self-left c =
     let e = c.args.self.now.room in
     omega arith
 
-pub offset-bounds-self-left : goal.offset-bounds-self-left
-offset-bounds-self-left c =
+pub offset_bounds-self-left : goal.offset_bounds-self-left
+offset_bounds-self-left c =
     let n = c.args.self.now.bays in
     let few : n ≤ 256 = c.args.self.now.few in
     let a : (c.args.left + 1) * n ≤ 256 * n = mul-le-mul_right n (omega arith) in
