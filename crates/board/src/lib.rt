@@ -2,6 +2,8 @@
 //
 // For: whoever needs a deck of their own. Promises: it is a deck, ready while the contact is closed, and no call of the
 // deck changes the contact; a new one is as New says. Rests on: grid, deck, decklists.
+#![tactic(auto)]
+
 ghost use Rattle.std.specs.Prelude.{◌≡◌, ◌*◌, length};
 ghost use Rattle.decklists.specs.Lists.{placed, Inside, Apart};
 ghost use Rattle.decklists.specs.Notes.{EachNoted, NobodyElse, NowhereElse};

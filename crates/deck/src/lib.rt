@@ -2,6 +2,8 @@
 //
 // For: the floor's calls, which are proved over any deck. Promises: what steer and go answer and leave, in every
 // case, stands on the trait; specs/Decks.antt is the page to read. Rests on: grid.
+#![tactic(auto)]
+
 pub mod drive;
 pub mod fault;
 pub mod settled;

@@ -1,5 +1,5 @@
 -- A deck kept as a list of squares and a list of headings, by carrier.
-use Rattle.std.specs.Prelude.{◌≡◌, ℕ, ◌<◌, Bool, List, length, ◌≢◌, slice_index_or}
+use Rattle.std.specs.Prelude.{ℕ, ◌<◌, Bool, List, length, ◌≢◌, slice_index_or}
 use Rattle.grid.specs.declared.heading.Heading.{Heading}
 use Rattle.grid.specs.declared.heading.Heading.TheVariants.{Stay}
 use Rattle.grid.specs.declared.square.Square.{Square}

@@ -2,6 +2,8 @@
 //
 // For: whoever needs a deck of their own. Promises: it is a deck and is always ready; a new one is as New says.
 // Rests on: grid, deck, decklists.
+#![tactic(auto)]
+
 ghost use Rattle.std.specs.Prelude.{◌≡◌, ◌*◌, length};
 ghost use Rattle.decklists.specs.Lists.{Inside, Apart};
 

@@ -9,8 +9,8 @@ use Rattle.decklists.proofs.moves.exchanges.Goals as goal
 coming : (c : goal.After-led) → (c.in-Some.j < length c.args.squares.now) × (end (listed c.args.extent c.args.squares.now c.args.headings.now true) c.in-Some.j ≡ get_or c.args.squares.now c.args.k corner)
 coming c = comes c.args.extent c.args.squares.now c.args.headings.now c.requires.inside c.requires.remain c.args.table.now c.number.result c.in-Some.j c.args.k c.requires.there c.requires.noted c.number.ensures.number c.in-Some.is
 
-pub offset-bounds-squares-j : goal.offset-bounds-squares-j
-offset-bounds-squares-j c = let h : c.in-Some.j < length c.args.squares.now = (coming c).0 in search rules
+pub offset_bounds-squares-j : goal.offset_bounds-squares-j
+offset_bounds-squares-j c = let h : c.in-Some.j < length c.args.squares.now = (coming c).0 in search rules
 
 pub bounds-squares-j : goal.bounds-squares-j
 bounds-squares-j c = (coming c).0

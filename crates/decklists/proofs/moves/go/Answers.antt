@@ -9,14 +9,14 @@ pub returns : goal.returns
 returns c =
     let e = c.args.extent in
     let ss = c.args.squares.now in
-    let ss' = c.move-all.new.squares in
-    let cleared = c.in-default.ensures in
+    let ss' = c.move_all.new.squares in
+    let cleared = c.in_default.ensures in
     let long : length ss' ≡ length ss = omega arith in
     record {
       went = (
         refl,
         cleared.lawful,
-        moved_by e ss ss' c.args.headings.now c.rest-all-2.new.headings long c.move-all.ensures c.rest-all-2.ensures,
+        moved_by e ss ss' c.args.headings.now c.rest_all-2.new.headings long c.move_all.ensures c.rest_all-2.ensures,
       );
-      noted = noted_there e.columns (length ss') (length ss) (end (listed e ss c.args.headings.now true)) (placed ss') c.refusal.new.table long c.move-all.ensures cleared.noted;
+      noted = noted_there e.columns (length ss') (length ss) (end (listed e ss c.args.headings.now true)) (placed ss') c.refusal.new.table long c.move_all.ensures cleared.noted;
     }

@@ -21,7 +21,7 @@ loop-k-preserved c =
     let e = c.args.extent in
     let v = listed e c.args.squares.now c.args.headings.now true in
     let here : c.number-at.result ≡ square_number e.columns (end v c.loop-k.k) = c.number-at.ensures.number ∙ ap (square_number e.columns) c.led.ensures in
-    noted_more e.columns (end v) c.loop-k.table c.loop-k.k c.number-at.result here (omega (arith, c.number-at.ensures.below, c.requires.room)) c.in-default.not-Some c.loop-k.invariant
+    noted_more e.columns (end v) c.loop-k.table c.loop-k.k c.number-at.result here (omega (arith, c.number-at.ensures.below, c.requires.room)) c.in_default.not-Some c.loop-k.invariant
 
 pub returns : goal.returns
 returns c =

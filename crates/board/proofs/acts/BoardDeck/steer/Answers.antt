@@ -6,17 +6,20 @@ use Rattle.decklists.specs.Lists.{listed}
 use Rattle.decklists.proofs.Keeping.{along}
 use Rattle.board.proofs.acts.BoardDeck.steer.Goals as goal
 
-pub invariant-of-self : goal.invariant-of-self
-invariant-of-self c =
+pub invariant_of-self : goal.invariant_of-self
+invariant_of-self c =
     let v = c.args.self.now in
-    let hs = with_items_is v.headings c.steer-one.new.headings (omega arith) in
-    let level : length (vec_items (with_items v.headings c.steer-one.new.headings)) ≡ length (vec_items v.headings) = omega (arith, ap length hs, ap length c.deref-mut.ensures.value) in
-    (level ∙ v.level, (v.room, (v.spare, (v.inside, (v.apart, (v.each, (v.known, (v.single, tt))))))))
+    let hs = with_items_is v.headings c.steer_one.new.headings (omega arith) in
+    let level : length (vec_items (with_items v.headings c.steer_one.new.headings)) ≡ length (vec_items v.headings) = omega (arith, ap length hs, ap length c.deref_mut.ensures.value) in
+    record { level = level ∙ v.level; room = v.room; spare = v.spare; inside = v.inside; apart = v.apart; each = v.each; known = v.known; single = v.single }
 
 pub returns : goal.returns
 returns c =
     let v = c.args.self.now in
-    let hs = with_items_is v.headings c.steer-one.new.headings (omega arith) in
+    let hs = with_items_is v.headings c.steer_one.new.headings (omega arith) in
     let ss = vec_items v.squares in
-    let steered = c.steer-one.ensures v.extent ss v.closed (ap length c.deref-mut.ensures.value ∙ v.level) in
-    (along (λ a b x y. Steered (listed v.extent ss a v.closed) c.args.carrier c.args.heading c.steer-one.result (listed v.extent ss x v.closed)) c.deref-mut.ensures.value c.deref-mut.ensures.value (sym hs) (sym hs) steered, refl)
+    let steered = c.steer_one.ensures v.extent ss v.closed (ap length c.deref_mut.ensures.value ∙ v.level) in
+    record {
+      steered = along (λ a b x y. Steered (listed v.extent ss a v.closed) c.args.carrier c.args.heading c.steer_one.result (listed v.extent ss x v.closed)) c.deref_mut.ensures.value c.deref_mut.ensures.value (sym hs) (sym hs) steered;
+      closed_unchanged = refl;
+    }
