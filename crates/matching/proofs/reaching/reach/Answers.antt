@@ -41,8 +41,8 @@ returns-in-Some g c =
       room = room_two _ _ _ c.loop-head.invariant.7 c.join.ensures.room;
     }
 
-pub overflow-add-head : goal.overflow-add-head
-overflow-add-head g c = let h = c.loop-head.invariant.0.fits in omega arith
+pub overflow_add-head : goal.overflow_add-head
+overflow_add-head g c = let h = c.loop-head.invariant.0.fits in omega arith
 
 pub loop-head-preserved : goal.loop-head-preserved
 loop-head-preserved g c = (
