@@ -1,4 +1,4 @@
-use Rattle.std.proofs.Common.{◌≡◌, ℕ, length, sym, refl, ◌∙◌, subst, arith}
+use Rattle.std.proofs.Common.{◌≡◌, ℕ, length, refl, ◌∙◌, subst, arith}
 use Rattle.matchings.specs.Reaching.{Lined}
 use Rattle.matchings.proofs.Places.{restored, stuck, placed, refused, sealed_all, sealed_none}
 use Rattle.matching.specs.WorkLists.{members_of}

@@ -1,7 +1,7 @@
-use Rattle.std.proofs.Common.{◌≡◌, ◌-◌, ◌<◌, length, refl, ◌∙◌, inl, inr, arith, length-set, get_or-set_other, get_or-set_same}
+use Rattle.std.proofs.Common.{◌<◌, length, refl, ◌∙◌, inr, arith, length-set, get_or-set_other, get_or-set_same}
 use Rattle.matchings.specs.Matchings.{◌!◌}
 use Rattle.matchings.proofs.Lines.{same_as, same_two}
-use Rattle.matchings.proofs.Reaching.{started, goal_fits, joined, at_end}
+use Rattle.matchings.proofs.Reaching.{started, goal_fits, joined}
 use Rattle.matching.proofs.Rooms.{room_two, room_after}
 use Rattle.matching.proofs.reaching.reach.Goals as goal
 

@@ -1,8 +1,7 @@
-use Rattle.std.proofs.Common.{◌<◌, length, sym, refl, ap, ◌∙◌, arith, get_or-set_other}
+use Rattle.std.proofs.Common.{sym, refl, ap, ◌∙◌, arith, get_or-set_other}
 use Rattle.matchings.specs.Matchings.{◌!◌}
 use Rattle.matchings.proofs.Lines.{same_as}
 use Rattle.matchings.proofs.Reaching.{turn_skip, turn_push, turn_done}
-use Rattle.matching.specs.WorkLists.{members_of}
 use Rattle.matching.proofs.Rooms.{room_two}
 use Rattle.matching.proofs.reaching.visit.Goals as goal
 use Rattle.matching.proofs.reaching.visit.Goals.{then-may, else-may}
