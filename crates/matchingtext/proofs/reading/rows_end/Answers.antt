@@ -1,4 +1,4 @@
-use Rattle.std.proofs.Common.{ℕ, ◌+◌, ◌*◌, subst, add-mul, one-mul, arith, below_more}
+use Rattle.std.proofs.Common.{ℕ, ◌+◌, subst, add-mul, one-mul, arith, below_more}
 use Rattle.matchingtext.specs.Sheets.{Row}
 use Rattle.matchingtext.proofs.reading.rows_end.Goals as goal
 
