@@ -2,7 +2,6 @@
 use Rattle.std.proofs.Common.{◌≡◌, ℕ, Bool, List, refl, arith}
 use Rattle.matchings.specs.Matchings.{First, Blocking, listed}
 use Rattle.matchings.proofs.Blocks.{none_past}
-use Rattle.matching.specs.declared.search.Matched.{Matched}
 use Rattle.matching.specs.declared.search.Matched.TheVariants.{Found, Blocked}
 use Rattle.matching.specs.Answers.{Exactly}
 

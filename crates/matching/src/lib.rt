@@ -6,6 +6,8 @@
 // ends the marks are again as they were.
 //
 // It rests on the crate `matchings`, which says what a perfect matching and a blocking set are, and has the lemmas.
+#![tactic(auto)]
+
 mod placing;
 mod reaching;
 mod relation;

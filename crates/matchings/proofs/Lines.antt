@@ -1,8 +1,8 @@
 -- Exchanging two members, lining a block up, giving members a block, and gathering those that block.
-use Rattle.std.proofs.Common.{◌≡◌, ℕ, ◌+◌, ◌-◌, ◌<◌, ◌≤◌, ◌≢◌, ◌⊎◌, List, length, set, sym, refl, ap, ◌∙◌, subst, inl, inr, ⊎_elim, arith, get_or-set_other, get_or-set_same}
+use Rattle.std.proofs.Common.{◌≡◌, ℕ, ◌+◌, ◌<◌, ◌≤◌, ◌≢◌, ◌⊎◌, List, length, set, sym, refl, ap, ◌∙◌, subst, inl, inr, ⊎_elim, arith, get_or-set_other, get_or-set_same}
 use Rattle.std.proofs.lemmas.Bool.{cases_eq}
 use Rattle.matchings.specs.Matchings.{◌!◌}
-use Rattle.matchings.specs.Reaching.{Among, Lined, Movable, Same}
+use Rattle.matchings.specs.Reaching.{Lined, Movable, Same}
 use Rattle.matchings.specs.Placing.{Split, Gathered}
 
 pub same_as : (m : ℕ) (a : List ℕ) → Same m a a

@@ -1,8 +1,8 @@
 -- The two phases: members become settled one by one, and then least one by one.
-use Rattle.std.proofs.Common.{◌≡◌, ℕ, zero, suc, ◌+◌, ◌<◌, ◌≤◌, Bool, true, false, cond, leb, ◌≢◌, ◌⊎◌, List, length, get_or, sym, refl, ap, ◌∙◌, subst, inl, inr, ⊎_elim, arith}
+use Rattle.std.proofs.Common.{◌≡◌, ℕ, ◌+◌, ◌<◌, ◌≤◌, Bool, true, leb, List, length, sym, refl, ◌∙◌, subst, ⊎_elim, arith}
 use Rattle.std.proofs.lemmas.Bool.{cases_eq, cases_lt, cond-true, cond-false, le-leb, lt-leb}
 use Rattle.matchings.proofs.Counting.{holder}
-use Rattle.matchings.specs.Matchings.{◌!◌, First, Perfect}
+use Rattle.matchings.specs.Matchings.{◌!◌, First}
 use Rattle.matchings.specs.Reaching.{Inj, Clear, Among, loose}
 use Rattle.matchings.specs.Placing.{Confined, Sealed, Split, Others, Like, Placed, Refused, Held}
 

@@ -1,11 +1,11 @@
 -- What the search for one left member gives: its least right member, a block by itself, or that it is hemmed in.
-use Rattle.std.proofs.Common.{◌≡◌, ℕ, ◌+◌, ◌-◌, ◌<◌, ◌≤◌, Bool, true, false, ltb, ◌≢◌, ◌⊎◌, List, length, get_or, Some, None, Option, sym, refl, ap, ◌∙◌, subst, inl, inr, ⊎_elim, arith}
-use Rattle.std.proofs.lemmas.Bool.{cases_eq, cases_lt, cases_Bool, both_ways, ltb-true, ltb-false, lt-ltb, le-ltb}
+use Rattle.std.proofs.Common.{◌≡◌, ℕ, ◌<◌, ◌≤◌, Bool, true, false, ltb, List, length, Some, None, sym, refl, ap, ◌∙◌, subst, inl, inr, ⊎_elim, arith}
+use Rattle.std.proofs.lemmas.Bool.{cases_lt, cases_Bool, both_ways, ltb-true, lt-ltb}
 use Rattle.std.proofs.lemmas.List.{ext_get_or}
 use Rattle.matchings.proofs.Counting.{same_set, holder, count_all, inj_count}
 use Rattle.matchings.specs.Matchings.{◌!◌}
-use Rattle.matchings.specs.Reaching.{Clear, Among, Inj, Lined, Same, Movable, Reached, Closed, Exhausted, Ended, Chosen}
-use Rattle.matchings.specs.Placing.{Turned, Others, Rotated, Like, Placed, Hemmed, Refused, Confined, Sealed}
+use Rattle.matchings.specs.Reaching.{Clear, Among, Inj, Lined, Reached, Exhausted, Ended, Chosen}
+use Rattle.matchings.specs.Placing.{Turned, Others, Like, Placed, Refused, Confined, Sealed}
 
 -- marks that are as they were past n, and clear below n as they were
 pub restored : (n : ℕ) (a b : List ℕ) → length a ≡ length b → Clear a n → Clear b n → ((k : ℕ) → n ≤ k → a ! k ≡ b ! k) → a ≡ b

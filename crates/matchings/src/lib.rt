@@ -4,6 +4,8 @@
 // The functions compute nothing: each promises one theorem. specs/Reaching and specs/Placing have the working vocabulary of
 // the search in the crate `matching`, and proofs/ the lemmas about it that need none of its code, so that an edit of
 // the search does not prove them anew. It rests on nothing but `std`.
+#![tactic(auto)]
+
 ghost use Rattle.matchings.specs.Theorems.{FirstIsUnique, PerfectExcludesBlocking, RegularNeverBlocks};
 
 // A relation has at most one first perfect matching.

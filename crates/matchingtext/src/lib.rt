@@ -3,6 +3,8 @@
 // A relation is a line with its size n, then n lines of n characters 0 and 1, left members down and right members across.
 // The reading functions answer exactly what specs/Sheets says is there; `solve` answers the first perfect matching. Some of
 // the functions ask what their `requires` says: they are offered to the programs only. It rests on the crate `matching`.
+#![tactic(auto)]
+
 mod reading;
 mod solving;
 mod table;

@@ -12,9 +12,9 @@ pub loop-k-preserved : goal.loop-k-preserved
 loop-k-preserved g c =
     let e = ap (λ x. c.args.mate.now ! x) c.member.ensures in
     elim c.if-right-least.branch [
-      | then-right-least+then-may w ↦ simp (w.best-is, w.least_is)
+      | then-right-least+then-may w ↦ simp (w.best-is, w.least-is)
           (best_take _ _ _ _ _ _ _ _ e c.loop-k.invariant (sym w.if-may.ensures) w.if-right-least.true)
-      | else-right-least w ↦ simp (w.best-is, w.least_is) (best_skip _ _ _ _ _ _ _ _ e c.loop-k.invariant
+      | else-right-least w ↦ simp (w.best-is, w.least-is) (best_skip _ _ _ _ _ _ _ _ e c.loop-k.invariant
           (elim w.else-right-least.branch [
             | else-right-least-via-then-right-least+else-may x ↦ λ a. absurd (both_ways _ (sym x.if-may.ensures) a)
             | else-right-least-via-else-right-least x ↦ λ a. x.if-right-least.false

@@ -1,5 +1,5 @@
 use Rattle.std.proofs.Common.{arith}
-use Rattle.matchings.proofs.Rotation.{mid_start, mid_step, mid_end}
+use Rattle.matchings.proofs.Rotation.{mid_step, mid_end}
 use Rattle.matching.proofs.placing.rotate.Goals as goal
 
 pub loop-k-preserved : goal.loop-k-preserved

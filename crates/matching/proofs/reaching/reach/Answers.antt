@@ -1,7 +1,7 @@
-use Rattle.std.proofs.Common.{◌≡◌, ◌-◌, ◌<◌, length, refl, ◌∙◌, inl, inr, arith, length-set, get_or-set_other, get_or-set_same}
+use Rattle.std.proofs.Common.{◌<◌, length, refl, ◌∙◌, inr, arith, length-set, get_or-set_other, get_or-set_same}
 use Rattle.matchings.specs.Matchings.{◌!◌}
 use Rattle.matchings.proofs.Lines.{same_as, same_two}
-use Rattle.matchings.proofs.Reaching.{started, goal_fits, joined, at_end}
+use Rattle.matchings.proofs.Reaching.{started, goal_fits, joined}
 use Rattle.matching.proofs.Rooms.{room_two, room_after}
 use Rattle.matching.proofs.reaching.reach.Goals as goal
 
@@ -41,8 +41,8 @@ returns-in-Some g c =
       room = room_two _ _ _ c.loop-head.invariant.7 c.join.ensures.room;
     }
 
-pub overflow-add-head : goal.overflow-add-head
-overflow-add-head g c = let h = c.loop-head.invariant.0.fits in omega arith
+pub overflow_add-head : goal.overflow_add-head
+overflow_add-head g c = let h = c.loop-head.invariant.0.fits in omega arith
 
 pub loop-head-preserved : goal.loop-head-preserved
 loop-head-preserved g c = (

@@ -1,17 +1,16 @@
-use Rattle.std.proofs.Common.{◌<◌, length, sym, refl, ap, ◌∙◌, arith, get_or-set_other}
+use Rattle.std.proofs.Common.{sym, refl, ap, ◌∙◌, arith, get_or-set_other}
 use Rattle.matchings.specs.Matchings.{◌!◌}
 use Rattle.matchings.proofs.Lines.{same_as}
 use Rattle.matchings.proofs.Reaching.{turn_skip, turn_push, turn_done}
-use Rattle.matching.specs.WorkLists.{members_of}
 use Rattle.matching.proofs.Rooms.{room_two}
 use Rattle.matching.proofs.reaching.visit.Goals as goal
-use Rattle.matching.proofs.reaching.visit.Goals.{then_May, else-may}
+use Rattle.matching.proofs.reaching.visit.Goals.{then-may, else-may}
 
 pub member-next-requires : goal.member-next-requires
 member-next-requires g c = let f = c.requires.movable.fits in let r = c.loop-k.invariant.2.own in let p = c.requires.room.own in omega arith
 
-pub take-up-requires : goal.take-up-requires
-take-up-requires g c =
+pub take_up-requires : goal.take_up-requires
+take_up-requires g c =
     let f = c.requires.movable.fits in
     let b = c.loop-k.invariant.0.behind in
     let r = c.loop-k.invariant.2.own in
@@ -27,11 +26,11 @@ loop-k-preserved g c =
     let t = ap (λ x. c.args.mate.now ! x) c.member.ensures in
     let s = c.loop-k.invariant.2.theirs in
     elim c.if-may.branch [
-      | then_May w ↦ simp (w.work-is, w.marks-is, w.tail-is) (
-        turn_push _ _ _ _ _ _ _ _ _ _ _ _ _ _ _ c.loop-k.invariant.0 _ _ e t _ _ w.take-up.ensures.parents (omega arith) (omega arith) (omega arith) (sym w.if-may.ensures)
-            w.take-up.ensures.members.there w.take-up.ensures.members.back w.take-up.ensures.members.others,
+      | then-may w ↦ simp (w.work-is, w.marks-is, w.tail-is) (
+        turn_push _ _ _ _ _ _ _ _ _ _ _ _ _ _ _ c.loop-k.invariant.0 _ _ e t _ _ w.take_up.ensures.parents (omega arith) (omega arith) (omega arith) (sym w.if-may.ensures)
+            w.take_up.ensures.members.there w.take_up.ensures.members.back w.take_up.ensures.members.others,
         λ k h. get_or-set_other c.loop-k.marks (c.args.mate.now ! c.member-next.result) k 1 0 (omega arith) ∙ c.loop-k.invariant.1 k h,
-        room_two _ _ _ c.loop-k.invariant.2 w.take-up.ensures.room,
+        room_two _ _ _ c.loop-k.invariant.2 w.take_up.ensures.room,
       )
       | else-may w ↦ simp (w.work-is, w.marks-is, w.tail-is)
           (turn_skip _ _ _ _ _ _ _ _ _ _ _ _ _ _ _ c.loop-k.invariant.0 _ _ e t (sym w.if-may.ensures), c.loop-k.invariant.1, c.loop-k.invariant.2)

@@ -6,7 +6,7 @@ use Rattle.matchings.proofs.Phases.{Sorted, held_loose, sorted_none, sorted_othe
 use Rattle.matching.specs.WorkLists.{Room}
 use Rattle.matching.proofs.Rooms.{room_two, room_after}
 use Rattle.matching.proofs.search.refine.Goals as goal
-use Rattle.matching.proofs.search.refine.Goals.{in-Given, in-default}
+use Rattle.matching.proofs.search.refine.Goals.{in-Given, in_default}
 
 pub loop-left-init : goal.loop-left-init
 loop-left-init g c = (sorted_none _ _ _ (held_loose _ _ _ _ c.requires.held), refl, confined_zero _ _ _ _ _ c.requires.clear.1, record { own = refl; theirs = refl })
@@ -37,7 +37,7 @@ loop-left-preserved g c =
             (confined_more _ _ _ _ _ _ _ _ _ _ c.loop-left.invariant.0.held.inj c.loop-left.invariant.2 w.in-Given.ensures.placed.0 w.in-Given.ensures.placed.1 w.split.ensures),
         room,
       )
-      | in-default w ↦ absurd (never_refused _ _ _ _ _ _ _ c.loop-left.invariant.0 w.in-default.ensures.placed.0)
+      | in_default w ↦ absurd (never_refused _ _ _ _ _ _ _ c.loop-left.invariant.0 w.in_default.ensures.placed.0)
     ]
 
 pub returns : goal.returns

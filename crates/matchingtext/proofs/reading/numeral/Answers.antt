@@ -1,4 +1,4 @@
-use Rattle.std.proofs.Common.{◌≡◌, ℕ, suc, ◌+◌, ◌-◌, ◌*◌, ◌^◌, get_or, sym, ap, ◌∙◌, pow-suc, add-one, arith, take_all, below_more}
+use Rattle.std.proofs.Common.{◌≡◌, ℕ, ◌+◌, ◌-◌, ◌*◌, ◌^◌, get_or, sym, ap, ◌∙◌, pow-suc, add-one, arith, take_all, below_more}
 use Rattle.std.proofs.lemmas.List.Sums.{fold_more}
 use Rattle.matchingtext.specs.Sheets.{written}
 use Rattle.matchingtext.proofs.reading.numeral.Goals as goal
