@@ -1,10 +1,8 @@
-use Rattle.std.proofs.Common.{◌≡◌, ℕ, ◌+◌, ◌*◌, ◌<◌, List, ◌++◌, length, get_or, take, drop, vec_items, sym, ap, ◌∙◌, subst, arith}
+use Rattle.std.proofs.Common.{◌≡◌, ℕ, ◌+◌, ◌*◌, ◌<◌, List, ◌++◌, length, get_or, drop, vec_items, sym, ap, ◌∙◌, subst, arith}
 use Rattle.std.proofs.lemmas.List.{take_rest, get_or-drop, length-drop}
 use Rattle.std.proofs.lemmas.Result.{err_from_is_err_and}
 use Rattle.grid.specs.Sides.{GoodSides}
-use Rattle.rules.specs.Entries.{GoodKinds}
-use Rattle.orderfile.specs.Records.{words, ReadRefused}
-use Rattle.orderfile.specs.declared.fault.OrderFault.TheVariants.{NoMemory}
+use Rattle.orderfile.specs.Records.{words}
 use Rattle.orderfile.proofs.Reading.{Bytes, wrong_entry, no_memory, kind_ruled, kind_whole, kind_entered, kind_not_entered, kind_order_good, kind_bytes}
 use Rattle.orderfile.proofs.read.read_kind.Goals as goal
 

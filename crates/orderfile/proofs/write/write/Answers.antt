@@ -1,4 +1,4 @@
-use Rattle.std.proofs.Common.{◌≡◌, sym, refl}
+use Rattle.std.proofs.Common.{sym}
 use Rattle.orderfile.proofs.RoundTrip.{written_reads_back, written_as, number_order, kind_order}
 use Rattle.orderfile.proofs.write.write.Goals as goal
 

@@ -1,5 +1,5 @@
-use Rattle.std.proofs.Common.{◌≡◌, refl, inr, arith}
-use Rattle.orderfile.specs.Records.{kinds, OrderView, GoodOrder, record_bytes}
+use Rattle.std.proofs.Common.{refl, inr, arith}
+use Rattle.orderfile.specs.Records.{kinds, OrderView}
 use Rattle.orderfile.proofs.Writing.{wrote, good_order, length_list_bytes}
 use Rattle.orderfile.proofs.write.write_kind.Goals as goal
 

@@ -1,6 +1,5 @@
-use Rattle.std.proofs.Common.{◌≡◌, ◌+◌, ◌-◌, ◌≤◌, ◌++◌, length, drop, ap, ◌∙◌, arith}
+use Rattle.std.proofs.Common.{◌≡◌, ◌+◌, ◌-◌, ◌++◌, length, drop, ap, ◌∙◌, arith}
 use Rattle.std.proofs.lemmas.List.{append-nil, drop_all, length-append, length-drop}
-use Rattle.orderfile.specs.Records.{words}
 use Rattle.orderfile.proofs.Writing.{placed}
 use Rattle.orderfile.proofs.write.write_kinds_and_masks.Goals as goal
 

@@ -1,7 +1,7 @@
-use Rattle.std.proofs.Common.{◌≡◌, refl, inl, arith}
-use Rattle.orderfile.specs.Records.{numbers, OrderView, GoodOrder, record_bytes}
+use Rattle.std.proofs.Common.{refl, inl, arith}
+use Rattle.orderfile.specs.Records.{numbers, OrderView}
 use Rattle.orderfile.proofs.Wording.{length_words}
-use Rattle.orderfile.proofs.Writing.{wrote, good_order, length_record}
+use Rattle.orderfile.proofs.Writing.{wrote, good_order}
 use Rattle.orderfile.proofs.write.write_number.Goals as goal
 
 pub returns-then-out-end : goal.returns-then-out-end

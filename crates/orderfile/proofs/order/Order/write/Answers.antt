@@ -1,6 +1,5 @@
-use Rattle.std.proofs.Common.{◌≡◌, sym, refl, ap, ◌∙◌}
-use Rattle.rules.specs.declared.any.AnyRule.{AnyRule}
-use Rattle.orderfile.specs.Records.{Lists, numbers, kinds, rule_number}
+use Rattle.std.proofs.Common.{◌≡◌, sym, ap, ◌∙◌}
+use Rattle.orderfile.specs.Records.{numbers, kinds, rule_number}
 use Rattle.orderfile.specs.Orders.{rule_lists}
 use Rattle.orderfile.proofs.RoundTrip.{written_reads_back, written_as, lists_order, kinds_same}
 use Rattle.orderfile.proofs.order.Order.write.Goals as goal
