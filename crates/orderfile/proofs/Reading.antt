@@ -1,13 +1,13 @@
 -- From the bytes to the order that they hold.
-use Rattle.std.proofs.Common.{◌≡◌, ℕ, ◌+◌, ◌-◌, ◌*◌, ◌/◌, ◌%◌, ◌^◌, ◌<◌, ◌≤◌, cond, eqb, ◌⊎◌, List, [], ◌∷◌, ◌++◌, length, get_or, take, drop, sym, refl, ap, ◌∙◌, subst, inl, inr, div-add-mod', arith, below_more}
+use Rattle.std.proofs.Common.{◌≡◌, ℕ, ◌+◌, ◌*◌, ◌/◌, ◌%◌, ◌<◌, cond, eqb, List, [], ◌∷◌, ◌++◌, length, get_or, drop, sym, ap, ◌∙◌, subst, inl, inr, div-add-mod', arith, below_more}
 use lib.Arith.{digits_div, digits_mod}
-use Rattle.std.proofs.lemmas.List.{drop_more, get_or-drop, length-drop, take_rest, length-append, get_or_append_left, get_or_push, get_or-take, take-append-drop, append_assoc}
+use Rattle.std.proofs.lemmas.List.{drop_more, get_or-drop, length-drop, get_or_append_left, get_or_push}
 use Rattle.grid.specs.Sides.{GoodSides, slot_count}
 use Rattle.rules.specs.Entries.{GoodWanted, GoodKinds}
 use Rattle.orderfile.specs.declared.fault.OrderFault.TheVariants.{BadLength, BadEntry, NoMemory}
-use Rattle.orderfile.specs.Records.{OrderView, Lists, numbers, kinds, words, sides_byte, header_bytes, record_bytes, list_bytes, rule_number, GoodOrder, Words, Ruled, Whole, slots_told, word_at, Entered, ReadRefused}
+use Rattle.orderfile.specs.Records.{numbers, kinds, words, sides_byte, header_bytes, record_bytes, GoodOrder, Words, Ruled, Whole, slots_told, word_at, Entered, ReadRefused}
 use Rattle.orderfile.specs.Reading.{Told}
-use Rattle.orderfile.proofs.Wording.{length_words, words_are, high_word, low_word}
+use Rattle.orderfile.proofs.Wording.{length_words, words_are}
 use Rattle.orderfile.proofs.RoundTrip.{word_of}
 use Rattle.orderfile.proofs.Writing.{good_order}
 

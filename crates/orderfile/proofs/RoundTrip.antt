@@ -1,13 +1,13 @@
 -- Reading undoes writing, and writing undoes reading.
-use Rattle.std.proofs.Common.{◌≡◌, ℕ, ◌+◌, ◌-◌, ◌*◌, ◌/◌, ◌%◌, ◌^◌, ◌<◌, ◌≤◌, cond, eqb, ◌⊎◌, List, [], ◌∷◌, ◌++◌, length, get_or, take, drop, IfOk, Ok, Err, Result, sym, refl, ap, ◌∙◌, subst, inl, inr, ⊎_elim, arith}
+use Rattle.std.proofs.Common.{◌≡◌, ℕ, ◌+◌, ◌-◌, ◌*◌, ◌/◌, ◌%◌, ◌<◌, cond, eqb, ◌⊎◌, List, length, get_or, take, drop, IfOk, Ok, Err, Result, sym, refl, ap, ◌∙◌, subst, inl, inr, arith}
 use native.Mathlib.Nat.{div-add-mod}
 use lib.Arith.{digits_div, digits_mod}
-use Rattle.std.proofs.lemmas.List.{take_at, drop_at, ext_get_or, get_or-append-add, get_or_append_left, length-append}
+use Rattle.std.proofs.lemmas.List.{take_at, drop_at, ext_get_or, get_or-append-add, get_or_append_left}
 use Rattle.grid.specs.Sides.{GoodSides, slot_count}
 use Rattle.orderfile.specs.declared.fault.OrderFault.{OrderFault}
 use Rattle.orderfile.specs.declared.fault.OrderFault.TheVariants.{BadSides, BadLength, BadMark, BadVersion, NoRule, BadEntry, NoRoom, NoMemory}
-use Rattle.orderfile.specs.Records.{OrderView, Lists, numbers, kinds, words, sides_byte, header_bytes, record_bytes, list_bytes, rule_number, GoodOrder, GoodEntries, WordLists, Sized, Ruled, Whole, slots_told, word_at, Entered, ReadRefused, Read, ReadsAs, ReadsBack, Known, WriteRefused, Written, WritesAs, WritesBack, lists_of, order_of}
-use Rattle.orderfile.proofs.Wording.{length_words, high_word, low_word}
+use Rattle.orderfile.specs.Records.{OrderView, Lists, numbers, kinds, words, sides_byte, header_bytes, record_bytes, list_bytes, rule_number, GoodOrder, Sized, Whole, slots_told, Entered, ReadRefused, ReadsBack, WriteRefused, Written, WritesBack, lists_of, order_of}
+use Rattle.orderfile.proofs.Wording.{high_word, low_word}
 use Rattle.orderfile.proofs.Writing.{length_list_bytes, length_record}
 
 -- the sides come out of their byte again

@@ -1,10 +1,9 @@
 -- What writing leaves in a buffer.
-use Rattle.std.proofs.Common.{◌≡◌, ℕ, ◌+◌, ◌-◌, ◌*◌, ◌^◌, ◌<◌, ◌≤◌, List, [], ◌∷◌, ◌++◌, length, get_or, take, drop, Ok, Err, sym, refl, ap, ◌∙◌, subst, inl, inr, arith}
+use Rattle.std.proofs.Common.{◌≡◌, ℕ, ◌+◌, ◌-◌, ◌*◌, List, ◌++◌, length, drop, ap, ◌∙◌, arith}
 use borrow.Rule.Slice.PartMut.{put_mid}
-use Rattle.std.proofs.lemmas.List.{take_at, drop_at, drop-drop, append_assoc, append-nil, length-append, drop_all}
-use Rattle.grid.specs.Sides.{GoodSides, GoodSide, slot_count}
-use Rattle.rules.specs.Entries.{GoodWanted, GoodKinds}
-use Rattle.orderfile.specs.Records.{OrderView, Lists, numbers, kinds, words, record_bytes, list_bytes, header_bytes, rule_number, GoodOrder, GoodEntries, WordLists, Words, Sized, Written}
+use Rattle.std.proofs.lemmas.List.{take_at, drop_at, drop-drop, append_assoc, length-append}
+use Rattle.grid.specs.Sides.{GoodSides, slot_count}
+use Rattle.orderfile.specs.Records.{OrderView, Lists, numbers, kinds, words, record_bytes, list_bytes, header_bytes, rule_number, GoodOrder, GoodEntries, WordLists, Sized}
 use Rattle.orderfile.proofs.Wording.{length_words}
 
 -- a front is written, and then a body after it

@@ -1,5 +1,5 @@
 -- What the program's orders are to a reader.
-use Rattle.std.specs.Prelude.{ℕ, Ok, Err, vec_items, Result}
+use Rattle.std.specs.Prelude.{Ok, Err, vec_items, Result}
 use Rattle.rules.specs.declared.any.AnyRule.{AnyRule}
 use Rattle.rules.specs.declared.any.AnyRule.TheVariants.{Number, Kind}
 use Rattle.orderfile.specs.declared.fault.OrderFault.{OrderFault}

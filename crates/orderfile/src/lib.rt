@@ -2,6 +2,8 @@
 //
 // For: whoever takes or sends orders. Promises: reading and writing ask their questions in order and answer exactly
 // what specs/Records.antt says, and each undoes the other. Rests on: grid (sides), rules.
+#![tactic(auto)]
+
 pub mod fault;
 pub mod order;
 pub mod read;

@@ -1,6 +1,6 @@
 -- What a number rule means, and when it is made.
-use Rattle.std.specs.Prelude.{◌≡◌, ℕ, ◌<◌, ◌≤◌, Bool, true, false, ◌&&◌, List, length, Ok, Err, vec_items, Result, ◌==◌, nat_lt, slice_index, refl}
-use Rattle.std.proofs.Common.{sym, ap, subst, ltb-true, le-ltb, ne_eqb, arith}
+use Rattle.std.specs.Prelude.{◌≡◌, ℕ, Bool, true, false, ◌&&◌, List, length, Ok, Err, vec_items, Result, ◌==◌, nat_lt, slice_index, refl}
+use Rattle.std.proofs.Common.{ap, ltb-true, le-ltb, ne_eqb, arith}
 use Rattle.rules.specs.Rules.{RuleView, Bounded}
 use Rattle.rules.specs.Entries.{GoodWanted}
 use Rattle.rules.specs.declared.fault.RuleFault.{RuleFault}

@@ -3,6 +3,8 @@
 // For: orders, which bring a rule, and the planner, which is proved over any rule. Promises: a rule means a number of
 // slots, a number of carriers, and for each slot and carrier whether it is admitted there; every reply is that
 // meaning's, so it is the same however often it is asked. Rests on: nothing but std.
+#![tactic(auto)]
+
 pub mod any;
 pub mod fault;
 pub mod kind;

@@ -9,12 +9,12 @@ loop-s-preserved c =
       omega arith,
       omega arith,
       pushed_entry (λ j. word_at c.args.bytes.now (2 * j)) (vec_items l.list) _ c.word.result l.s
-          (sym l.list.ok.0 ∙ l.invariant.0) c.push-reserved.ensures.items c.word.ensures l.invariant.2,
+          (sym l.list.ok.0 ∙ l.invariant.0) c.push_reserved.ensures.items c.word.ensures l.invariant.2,
     )
 
 pub returns : goal.returns
 returns c =
     let l = c.loop-s in
     let long = l.list.ok.0 in
-    words_read c.args.bytes.now (vec_items l.list) (λ i. (c.type-inv.bytes i).fits) (omega arith)
+    words_read c.args.bytes.now (vec_items l.list) (λ i. (c.type_inv.bytes i).fits) (omega arith)
     (λ s h. l.invariant.2 s (omega arith))

@@ -15,8 +15,8 @@ read_writes_back bytes (Err f) r = tt
 
 pub returns-in-Number : goal.returns-in-Number
 returns-in-Number c =
-    record { read = c.read-number.ensures; writes_back = read_writes_back _ c.read-number.result c.read-number.ensures }
+    record { read = c.read_number.ensures; writes_back = read_writes_back _ c.read_number.result c.read_number.ensures }
 
 pub returns-in-Kind : goal.returns-in-Kind
 returns-in-Kind c =
-    record { read = c.read-kind.ensures; writes_back = read_writes_back _ c.read-kind.result c.read-kind.ensures }
+    record { read = c.read_kind.ensures; writes_back = read_writes_back _ c.read_kind.result c.read_kind.ensures }
