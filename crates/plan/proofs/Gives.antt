@@ -1,5 +1,5 @@
 -- One row given out, and one after another.
-use Rattle.std.proofs.Common.{◌≡◌, ℕ, ◌+◌, ◌*◌, ◌<◌, ◌≤◌, Bool, true, ◌&&◌, eqb, ltb, leb, ◌≢◌, ◌⊎◌, List, [], length, get_or, set, sym, refl, ap, ◌∙◌, subst, inl, inr, ⊎_elim, mul_comm, arith, length-set, get_or-set_other, get_or-set_same}
+use Rattle.std.proofs.Common.{◌≡◌, ℕ, ◌+◌, ◌*◌, ◌<◌, ◌≤◌, Bool, ◌&&◌, eqb, ltb, leb, ◌≢◌, ◌⊎◌, List, [], length, get_or, set, sym, refl, ap, ◌∙◌, subst, inl, inr, ⊎_elim, mul_comm, arith, length-set, get_or-set_other, get_or-set_same}
 use Rattle.std.proofs.lemmas.Bool.{cases_eq, cases_lt, and_from, and_parts, eq-eqb, eqb-true, le-leb, leb-true, ltb-true}
 use Rattle.grid.specs.declared.sides.Sides.{Sides}
 use Rattle.grid.specs.declared.slot.Slot.{Slot}
@@ -16,7 +16,7 @@ use Rattle.planning.specs.MiddleRows.{allows, Round}
 use Rattle.planning.proofs.Slots.{slots_of}
 use Rattle.planning.proofs.Rounds.{SameEnds as SamePlanEnds, Agree, first_agree, waiting_agree, perfect_moved, first_moved, first_below, round_agree, regular_counts, none_left}
 use Rattle.plan.specs.Routes.{plan_on, SameEnds}
-use Rattle.plan.specs.Rows.{middle_of, route_waits, waiting_routes, Tallied, LowRows, Lowest, Gave, Unplaced, Whole, FirstRows}
+use Rattle.plan.specs.Rows.{middle_of, waiting_routes, Tallied, LowRows, Lowest, Gave, Unplaced, Whole, FirstRows}
 
 abbrev start_row_of : List Route → ℕ → ℕ
 start_row_of rs c = (route_at rs c).start.row

@@ -1,5 +1,5 @@
 -- What the search answers of a rule, and what goals and middle rows make together: the plan of the rule.
-use Rattle.std.proofs.Common.{◌≡◌, ℕ, ◌+◌, ◌*◌, ◌<◌, ◌≤◌, Bool, List, length, take, sym, refl, ap, ◌∙◌, subst, arith, length-take}
+use Rattle.std.proofs.Common.{◌≡◌, ℕ, ◌≤◌, Bool, List, length, take, sym, refl, ap, ◌∙◌, subst, arith, length-take}
 use Rattle.grid.specs.declared.sides.Sides.{Sides}
 use Rattle.grid.specs.declared.slot.Slot.{Slot}
 use Rattle.grid.specs.declared.square.Square.{Square}
@@ -14,7 +14,7 @@ use Rattle.motion.specs.Carrying.{InSlots}
 use Rattle.course.specs.declared.route.Route.{Route}
 use Rattle.course.specs.Routes.{route_at}
 use Rattle.planning.specs.Assignments.{AssignedGoals, Blocked}
-use Rattle.planning.specs.Planned.{Planned, Apart}
+use Rattle.planning.specs.Planned.{Planned}
 use Rattle.planning.specs.Theorems.{Shuffled}
 use Rattle.planning.proofs.Slots.{same_slot, in_slots}
 use Rattle.planning.proofs.Plans.{goal_slots, plan_shuffles}

@@ -1,6 +1,6 @@
 -- The largest floor has room for every floor.
-use Rattle.std.proofs.Common.{ℕ, ◌*◌, ◌<◌, ◌≤◌, mul-le-mul_right, mul_comm, one-mul, arith}
-use Rattle.grid.specs.Sides.{greatest_side, GoodSide, slot_count, row_count}
+use Rattle.std.proofs.Common.{ℕ, ◌*◌, ◌≤◌, mul-le-mul_right, one-mul, arith}
+use Rattle.grid.specs.Sides.{greatest_side, GoodSide, slot_count}
 
 -- as many slots as the largest floor has, at most
 pub slots_fit : (h w : ℕ) → GoodSide h → GoodSide w → slot_count h w ≤ slot_count greatest_side greatest_side

@@ -5,6 +5,8 @@
 // is answered. It is an inner call, offered to the crate above: its `requires` ask for a rule of the floor's size, for
 // starts in slots of their own, and for clear marks. It allocates nothing; its tables are local arrays of the largest
 // floor. Rests on: matching, for every matching; planning, for what a plan is and all that holds of it.
+#![tactic(auto)]
+
 mod assign;
 mod bay_counts;
 mod give;

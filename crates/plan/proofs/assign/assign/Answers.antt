@@ -1,4 +1,4 @@
-use Rattle.std.proofs.Common.{◌≡◌, ℕ, ◌≤◌, List, length, sym, refl, ap, arith}
+use Rattle.std.proofs.Common.{ℕ, ◌≤◌, List, length, sym, ap, arith}
 use Rattle.grid.specs.Sides.{greatest_side, slot_count}
 use Rattle.plan.proofs.Sizes.{slots_fit}
 use Rattle.plan.proofs.Made.{take_fit}

@@ -1,4 +1,4 @@
-use Rattle.std.proofs.Common.{◌≡◌, sym, refl, ap, ◌∙◌, subst, arith}
+use Rattle.std.proofs.Common.{sym, ◌∙◌, arith}
 use Rattle.plan.proofs.Picks.{pick_none, pick_take, pick_skip, picked}
 use Rattle.std.proofs.lemmas.Bool.{both_ways}
 use Rattle.plan.proofs.give.lowest.Goals as goal
@@ -9,8 +9,8 @@ loop-c-init c = pick_none _ _
 
 pub loop-c-preserved : goal.loop-c-preserved
 loop-c-preserved c = elim c.if-waits.branch [
-  | then-waits+then-routes-c w ↦ simp (w.best-is, w.least_is) (pick_take _ _ _ _ _ c.loop-c.invariant (sym c.waits.ensures ∙ w.if-waits.true) w.if-routes-c.true)
-  | else-waits w ↦ simp (w.best-is, w.least_is) (pick_skip _ _ _ _ _ c.loop-c.invariant
+  | then-waits+then-routes-c w ↦ simp (w.best-is, w.least-is) (pick_take _ _ _ _ _ c.loop-c.invariant (sym c.waits.ensures ∙ w.if-waits.true) w.if-routes-c.true)
+  | else-waits w ↦ simp (w.best-is, w.least-is) (pick_skip _ _ _ _ _ c.loop-c.invariant
       (elim w.else-waits.branch [
         | else-waits-via-then-waits+else-routes-c x ↦ λ a. x.if-routes-c.false
         | else-waits-via-else-waits x ↦ λ a. absurd (both_ways _ x.if-waits.false (c.waits.ensures ∙ a))

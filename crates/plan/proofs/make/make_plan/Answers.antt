@@ -1,4 +1,4 @@
-use Rattle.std.proofs.Common.{◌≡◌, ℕ, List, sym, refl, ap, ◌∙◌, arith}
+use Rattle.std.proofs.Common.{ℕ, List, refl, ap, ◌∙◌, arith}
 use Rattle.matchings.specs.Matchings.{◌!◌}
 use Rattle.planning.proofs.Plans.{plan_is_unique}
 use Rattle.plan.proofs.Sizes.{bays_fit}

@@ -1,4 +1,4 @@
-use Rattle.std.proofs.Common.{◌≡◌, ◌<◌, ◌≤◌, sym, refl, ap, ◌∙◌, arith}
+use Rattle.std.proofs.Common.{◌∙◌, arith}
 use Rattle.plan.proofs.Gives.{whole_kept, ends_both, upto_fresh, upto_more, still_regular, all_rows, matched, table_is}
 use Rattle.plan.proofs.middles.fill.Goals as goal
 

@@ -1,4 +1,4 @@
-use Rattle.std.proofs.Common.{◌+◌, ◌*◌, ◌<◌, ◌≤◌, refl, ◌∙◌, arith}
+use Rattle.std.proofs.Common.{refl, arith}
 use Rattle.course.specs.Routes.{route_at}
 use Rattle.planning.proofs.Slots.{cell_in}
 use Rattle.planning.proofs.Counts.{count_few}
