@@ -1,5 +1,5 @@
 -- A move of a good plan is refused only where the deck is not ready, and leads where the plan says.
-use Rattle.std.proofs.Common.{◌≡◌, ℕ, ◌+◌, ◌<◌, ◌≤◌, Bool, true, false, List, length, get_or, is_err, Ok, Err, Result, sym, refl, ap, ◌∙◌, arith}
+use Rattle.std.proofs.Common.{◌≡◌, ℕ, ◌+◌, ◌<◌, Bool, true, false, List, length, get_or, is_err, Ok, Err, Result, sym, refl, ◌∙◌, arith}
 use Rattle.grid.specs.declared.heading.Heading.{Heading}
 use Rattle.grid.specs.declared.heading.Heading.TheVariants.{Stay}
 use Rattle.grid.specs.declared.square.Square.{Square}
@@ -10,13 +10,13 @@ use Rattle.deck.specs.Driven.{headed, Driven}
 use Rattle.deck.proofs.Driving.{goes_alike}
 use Rattle.deck.proofs.Settling.{settled}
 use Rattle.motion.specs.Plans.{Plan, whole, plan_steps}
-use Rattle.motion.specs.Carrying.{Good, Carried, moment, retreat}
+use Rattle.motion.specs.Carrying.{Good, moment, retreat}
 use Rattle.motion.proofs.Whole.{plans_are_carried}
 use Rattle.chain.specs.Floors.{Sized}
 use Rattle.floor.specs.declared.record.moves.Way.{Way}
 use Rattle.floor.specs.declared.record.moves.Way.TheVariants.{On, Back}
 use Rattle.floor.specs.Standing.{Placed}
-use Rattle.floor.specs.Moving.{way_heading, leaving, coming, Arrived, Gone}
+use Rattle.floor.specs.Moving.{way_heading, leaving, coming, Gone}
 
 not-true : (b : Bool) → (b ≡ true → ⊥) → b ≡ false
 not-true true n = absurd (n refl)

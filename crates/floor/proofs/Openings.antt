@@ -1,13 +1,13 @@
 -- A floor in which every carrier rests where it stands: its places are permutations, and it has nothing to do.
-use Rattle.std.proofs.Common.{◌≡◌, ℕ, zero, suc, ◌+◌, ◌*◌, ◌%◌, ◌<◌, ◌≤◌, max, cond, eqb, List, length, get_or, Some, None, Option, sym, refl, ap, ◌∙◌, subst, arith, MatchOption}
+use Rattle.std.proofs.Common.{◌≡◌, ℕ, zero, suc, ◌+◌, ◌*◌, ◌%◌, ◌<◌, max, cond, eqb, List, length, Some, None, Option, sym, refl, ap, ◌∙◌, subst, arith, MatchOption}
 use Rattle.grid.specs.declared.sides.Sides.{Sides}
 use Rattle.grid.specs.declared.slot.Slot.{Slot}
 use Rattle.grid.specs.declared.square.Square.{Square}
-use Rattle.grid.specs.Sides.{GoodSides, row_count, slot_count}
+use Rattle.grid.specs.Sides.{row_count, slot_count}
 use Rattle.grid.specs.Slots.{slot, slot_square}
 use Rattle.deck.specs.Decks.{DeckView, Sound}
 use Rattle.motion.specs.Runs.{away}
-use Rattle.motion.specs.Plans.{Plan, greatest, run_steps, furthest, start_column, goal_column, first_columns_steps, turn_steps, rows_steps, turn_back_steps, last_columns_steps}
+use Rattle.motion.specs.Plans.{greatest, run_steps, furthest, start_column, goal_column, first_columns_steps, turn_steps, rows_steps, last_columns_steps}
 use Rattle.motion.specs.Carrying.{InSlots, Good}
 use Rattle.motion.proofs.Lengths.{greatest_none, greatest_more}
 use Rattle.course.specs.declared.route.Route.{Route}

@@ -1,5 +1,5 @@
 -- An order's marks, and the slots that its plan starts from.
-use Rattle.std.proofs.Common.{◌≡◌, ℕ, zero, suc, ◌*◌, ◌<◌, ◌≤◌, Bool, cond, ◌⊎◌, List, length, get_or, take, vec_items, sym, refl, ap, ◌∙◌, subst, inl, inr, arith, length-take, get_or-take, ne_eqb}
+use Rattle.std.proofs.Common.{◌≡◌, ℕ, zero, suc, ◌*◌, ◌<◌, ◌≤◌, Bool, cond, ◌⊎◌, List, length, take, vec_items, sym, ap, ◌∙◌, subst, inl, inr, arith, length-take, get_or-take, ne_eqb}
 use Rattle.grid.specs.declared.slot.Slot.{Slot}
 use Rattle.grid.specs.declared.square.Square.{Square}
 use Rattle.grid.specs.Sides.{slot_count}
@@ -7,7 +7,7 @@ use Rattle.grid.specs.Slots.{slot_square}
 use Rattle.deck.specs.Decks.{DeckView}
 use Rattle.rules.specs.Rules.{RuleView}
 use Rattle.motion.specs.Plans.{Plan, whole, plan_steps}
-use Rattle.motion.specs.Carrying.{InSlots, Good, Carried}
+use Rattle.motion.specs.Carrying.{InSlots}
 use Rattle.motion.proofs.Whole.{plans_are_carried}
 use Rattle.course.specs.declared.route.Route.{Route}
 use Rattle.course.specs.Routes.{route_at, plan_of}

@@ -1,11 +1,11 @@
 -- What every floor record gives.
-use Rattle.std.proofs.Common.{◌≡◌, ℕ, ◌*◌, ◌<◌, ◌≤◌, Bool, true, false, List, length, get_or, vec_items, MatchBool, sym, refl, ap, ◌∙◌, subst, mul-le-mul, mul-le-mul_left, arith}
+use Rattle.std.proofs.Common.{◌≡◌, ℕ, ◌<◌, ◌≤◌, Bool, true, false, List, length, get_or, vec_items, MatchBool, sym, refl, ap, ◌∙◌, subst, mul-le-mul, mul-le-mul_left, arith}
 use Rattle.grid.specs.declared.heading.Heading.{Heading}
 use Rattle.grid.specs.declared.slot.Slot.{Slot}
 use Rattle.grid.specs.declared.heading.Heading.TheVariants.{Stay}
 use Rattle.grid.specs.Sides.{greatest_side, GoodSides, slot_count}
 use Rattle.deck.specs.Decks.{DeckView, Unchanged}
-use Rattle.motion.specs.Plans.{Plan, whole, first_columns_steps, turn_steps, rows_steps, turn_back_steps, last_columns_steps}
+use Rattle.motion.specs.Plans.{whole, first_columns_steps, turn_steps, rows_steps, turn_back_steps, last_columns_steps}
 use Rattle.motion.specs.Carrying.{InSlots, Good}
 use Rattle.course.specs.declared.route.Route.{Route}
 use Rattle.course.specs.declared.stage.Stage.{Stage}
@@ -87,24 +87,23 @@ headings_whole f way hs routes stage t n same alike all c l =
     same (all f.sides.height f.sides.width) in
     here c l ∙ ap (way_heading way) (sym (alike.heading c))
 
--- What a record's fields owe, in their order.
-abbrev pub Owed : ℕ → ℕ → List Route → Stages → ℕ → Type 0
-Owed h w routes s n =
-    (length routes ≡ slot_count h w)
-    × (Inside h w (starts routes)
-    × (Apart h w (starts routes)
-    × (Inside h w (after_first_columns routes)
-    × (Apart h w (after_first_columns routes)
-    × (Inside h w (before_last_columns routes)
-    × (Apart h w (before_last_columns routes)
-    × (Inside h w (goals routes)
-    × (Apart h w (goals routes)
-    × ((s.first_columns ≡ first_columns_steps (plan_of h w routes))
-    × ((s.turn ≡ turn_steps (plan_of h w routes))
-    × ((s.rows ≡ rows_steps (plan_of h w routes))
-    × ((s.turn_back ≡ turn_back_steps (plan_of h w routes))
-    × ((s.last_columns ≡ last_columns_steps (plan_of h w routes))
-    × ((n ≤ total_steps s) × Unit {0}))))))))))))))
+-- What a record's fields owe, by their names.
+pub record Owed (h w : ℕ) (routes : List Route) (s : Stages) (n : ℕ) : Type 0 where
+  pub many : length routes ≡ slot_count h w
+  pub starts_inside : Inside h w (starts routes)
+  pub starts_apart : Apart h w (starts routes)
+  pub lefts_inside : Inside h w (after_first_columns routes)
+  pub lefts_apart : Apart h w (after_first_columns routes)
+  pub rights_inside : Inside h w (before_last_columns routes)
+  pub rights_apart : Apart h w (before_last_columns routes)
+  pub goals_inside : Inside h w (goals routes)
+  pub goals_apart : Apart h w (goals routes)
+  pub first_columns : s.first_columns ≡ first_columns_steps (plan_of h w routes)
+  pub turn : s.turn ≡ turn_steps (plan_of h w routes)
+  pub rows : s.rows ≡ rows_steps (plan_of h w routes)
+  pub turn_back : s.turn_back ≡ turn_back_steps (plan_of h w routes)
+  pub last_columns : s.last_columns ≡ last_columns_steps (plan_of h w routes)
+  pub within : n ≤ total_steps s
 
 -- a good plan and its stages pay it
 pub paid :
@@ -116,31 +115,20 @@ pub paid :
     → Owed h w routes s n
 paid h w routes s n long good st l =
     let inside : (place : ℕ → Slot) → InSlots (plan_of h w routes) place → Inside h w place = λ place i c m. i.inside c (omega arith) in
-    let apart : (place : ℕ → Slot) → InSlots (plan_of h w routes) place → Apart h w place = λ place i c d cd m. i.apart c d cd (omega arith) in (
-      long,
-      (
-        inside (starts routes) good.starts,
-        (
-          apart (starts routes) good.starts,
-          (
-            inside (after_first_columns routes) good.after_first_columns,
-            (
-              apart (after_first_columns routes) good.after_first_columns,
-              (
-                inside (before_last_columns routes) good.before_last_columns,
-                (
-                  apart (before_last_columns routes) good.before_last_columns,
-                  (
-                    inside (goals routes) good.goals,
-                    (
-                      apart (goals routes) good.goals,
-                      (st.first_columns, (st.turn, (st.rows, (st.turn_back, (st.last_columns, (l, tt)))))),
-                    ),
-                  ),
-                ),
-              ),
-            ),
-          ),
-        ),
-      ),
-    )
+    let apart : (place : ℕ → Slot) → InSlots (plan_of h w routes) place → Apart h w place = λ place i c d cd m. i.apart c d cd (omega arith) in record {
+      many = long;
+      starts_inside = inside (starts routes) good.starts;
+      starts_apart = apart (starts routes) good.starts;
+      lefts_inside = inside (after_first_columns routes) good.after_first_columns;
+      lefts_apart = apart (after_first_columns routes) good.after_first_columns;
+      rights_inside = inside (before_last_columns routes) good.before_last_columns;
+      rights_apart = apart (before_last_columns routes) good.before_last_columns;
+      goals_inside = inside (goals routes) good.goals;
+      goals_apart = apart (goals routes) good.goals;
+      first_columns = st.first_columns;
+      turn = st.turn;
+      rows = st.rows;
+      turn_back = st.turn_back;
+      last_columns = st.last_columns;
+      within = l;
+    }

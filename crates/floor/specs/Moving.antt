@@ -1,5 +1,5 @@
 -- One move of a plan made on a deck, on or back.
-use Rattle.std.specs.Prelude.{◌≡◌, ℕ, ◌+◌, ◌<◌, true, false, Ok, Err, Result}
+use Rattle.std.specs.Prelude.{◌≡◌, ℕ, ◌+◌, true, false, Ok, Err, Result}
 use Rattle.grid.specs.declared.heading.Heading.{Heading}
 use Rattle.grid.specs.declared.square.Square.{Square}
 use Rattle.grid.specs.Headings.{opposite}

@@ -1,5 +1,5 @@
 -- The four lists of places of a list of routes, and when one fills the slots of a floor.
-use Rattle.std.specs.Prelude.{◌≡◌, ℕ, ◌<◌, List, ◌≢◌}
+use Rattle.std.specs.Prelude.{ℕ, ◌<◌, List, ◌≢◌}
 use Rattle.grid.specs.declared.slot.Slot.{Slot}
 use Rattle.grid.specs.Sides.{row_count, slot_count}
 use Rattle.grid.specs.Slots.{slot}

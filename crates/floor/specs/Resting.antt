@@ -2,7 +2,7 @@
 use Rattle.std.specs.Prelude.{◌≡◌, ℕ, ◌<◌, List}
 use Rattle.grid.specs.declared.slot.Slot.{Slot}
 use Rattle.grid.specs.declared.square.Square.{Square}
-use Rattle.grid.specs.Sides.{row_count, slot_count}
+use Rattle.grid.specs.Sides.{row_count}
 use Rattle.grid.specs.Slots.{slot_square}
 use Rattle.deck.specs.Decks.{DeckView}
 use Rattle.course.specs.declared.route.Route.{Route}

@@ -1,13 +1,13 @@
 -- What a floor record shows a reader, and what every one keeps.
-use Rattle.std.specs.Prelude.{◌≡◌, ℕ, ◌+◌, ◌<◌, length, Ok, Err, vec_items, Result, refl}
-use Rattle.std.proofs.Common.{sym, ap, subst, ◌∙◌, arith}
+use Rattle.std.specs.Prelude.{◌≡◌, ℕ, ◌+◌, Ok, Err, vec_items, Result, refl}
+use Rattle.std.proofs.Common.{arith}
 use Rattle.grid.specs.declared.slot.Slot.{Slot}
 use Rattle.grid.specs.Sides.{slot_count}
-use Rattle.motion.specs.Plans.{Plan, whole, plan_steps}
-use Rattle.motion.specs.Carrying.{InSlots, Good}
+use Rattle.motion.specs.Plans.{Plan, whole}
+use Rattle.motion.specs.Carrying.{InSlots}
 use Rattle.course.specs.declared.stage.Stages.{Stages}
 use Rattle.course.specs.Routes.{plan_of}
-use Rattle.chain.specs.Floors.{FloorView, slots, Kept}
+use Rattle.chain.specs.Floors.{FloorView, Kept}
 use Rattle.chain.specs.declared.fault.FloorFault.{FloorFault}
 use Rattle.floor.specs.Places.{Inside, Apart}
 use Rattle.floor.specs.declared.record.Floor.{Floor}

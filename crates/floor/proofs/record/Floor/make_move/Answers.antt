@@ -1,8 +1,6 @@
-use Rattle.std.proofs.Common.{◌≡◌, ℕ, ◌<◌, List, length, get_or, vec_items, sym, ap, ◌∙◌, subst, arith, rules}
-use Rattle.grid.specs.declared.heading.Heading.TheVariants.{Stay}
-use Rattle.motion.specs.Plans.{plan_steps, whole}
+use Rattle.std.proofs.Common.{◌≡◌, ◌<◌, length, arith, rules}
+use Rattle.motion.specs.Plans.{plan_steps}
 use Rattle.floor.specs.Shown.{plan_in, kept}
-use Rattle.floor.specs.Moving.{way_heading}
 use Rattle.floor.proofs.Records.{staged, few_slots, headings_whole}
 use Rattle.floor.proofs.Moves.{moved_gone}
 use Rattle.floor.proofs.record.Floor.make_move.Goals as goal

@@ -1,13 +1,11 @@
-use Rattle.std.proofs.Common.{◌≡◌, ℕ, ◌≤◌, List, length, vec_items, sym, refl, ◌∙◌, subst, arith, rules}
+use Rattle.std.proofs.Common.{◌≡◌, List, length, vec_items, sym, subst, arith, rules}
 use Rattle.grid.specs.Sides.{GoodSides, slot_count}
-use Rattle.deck.specs.Decks.{DeckView, Sound}
 use Rattle.course.specs.declared.route.Route.{Route}
 use Rattle.course.specs.Routes.{plan_of}
 use Rattle.course.specs.Stages.{Staged}
-use Rattle.chain.specs.declared.fault.FloorFault.{FloorFault}
 use Rattle.chain.specs.declared.fault.FloorFault.TheVariants.{WrongDeck, OffSlot, NoMemory}
 use Rattle.chain.specs.Floors.{FloorView, Sized}
-use Rattle.chain.specs.Calls.{OpenRefused, OnSlots, Opening}
+use Rattle.chain.specs.Calls.{OpenRefused, Opening}
 use Rattle.chain.proofs.Keeping.{every_chain}
 use Rattle.floor.specs.Shown.{total_steps}
 use Rattle.floor.specs.Resting.{AllRest}
@@ -56,9 +54,27 @@ invariant_of-result g c =
     let staged : Staged (plan_of s.height s.width items) c.of-stages.result =
     subst (λ (rs : List Route). Staged (plan_of s.height s.width rs) c.of-stages.result) c.deref.ensures.value
     (c.of-stages.ensures s.height s.width) in
+    let owed =
     paid s.height s.width items c.of-stages.result 0 long
     (rest_good s.height s.width v items c.if-not-is_sized.ensures (g.D.Deck.sound c.args.deck.now) long all)
-    staged (omega arith)
+    staged (omega arith) in
+    record {
+      many = owed.many;
+      starts_inside = owed.starts_inside;
+      starts_apart = owed.starts_apart;
+      lefts_inside = owed.lefts_inside;
+      lefts_apart = owed.lefts_apart;
+      rights_inside = owed.rights_inside;
+      rights_apart = owed.rights_apart;
+      goals_inside = owed.goals_inside;
+      goals_apart = owed.goals_apart;
+      first_columns = owed.first_columns;
+      turn = owed.turn;
+      rows = owed.rows;
+      turn_back = owed.turn_back;
+      last_columns = owed.last_columns;
+      within = owed.within;
+    }
 
 pub returns-in-Ok : goal.returns-in-Ok
 returns-in-Ok g c =

@@ -6,9 +6,9 @@ use Rattle.course.specs.declared.route.Route.{Route}
 use Rattle.course.specs.Routes.{route_at, plan_of}
 use Rattle.planning.specs.Planned.{Planned}
 use Rattle.plan.specs.Making.{start_square}
-use Rattle.chain.specs.Calls.{OrderRefused, Clean, RuleFor}
+use Rattle.chain.specs.Calls.{OrderRefused, RuleFor}
 use Rattle.floor.specs.Present.{present}
-use Rattle.floor.specs.Shown.{shown, plan_in, kept}
+use Rattle.floor.specs.Shown.{plan_in, kept}
 use Rattle.floor.proofs.Records.{few_slots, staged}
 use Rattle.floor.proofs.Orders.{clean_whole, clean_front, starts_in_slots, starts_shown, planned_at}
 use Rattle.floor.proofs.record.Floor.order.Goals as goal

@@ -1,4 +1,4 @@
-use Rattle.std.proofs.Common.{◌≡◌, ◌<◌, ◌≢◌, length, ap, ◌∙◌, arith, get_or-set_other, get_or-set_same, rules, below_more}
+use Rattle.std.proofs.Common.{◌<◌, ◌≢◌, length, ap, ◌∙◌, arith, get_or-set_other, get_or-set_same, rules, below_more}
 use Rattle.course.specs.Routes.{plan_of}
 use Rattle.floor.specs.Moving.{way_heading}
 use Rattle.floor.proofs.record.moves.write_headings.Goals as goal

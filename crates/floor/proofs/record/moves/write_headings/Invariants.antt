@@ -1,4 +1,4 @@
-use Rattle.std.proofs.Common.{◌≡◌, ℕ, ◌<◌, length, get_or}
+use Rattle.std.proofs.Common.{◌≡◌, ℕ, ◌<◌, get_or}
 use Rattle.grid.specs.declared.heading.Heading.TheVariants.{Stay}
 use Rattle.course.specs.Routes.{plan_of}
 use Rattle.course.specs.Stages.{motion_of}

@@ -1,7 +1,4 @@
-use Rattle.std.proofs.Common.{◌≡◌, ◌<◌, ◌≢◌, length, sym, refl, ap, subst, arith, get_or-set_other, get_or-set_same, below_more}
-use Rattle.course.specs.declared.route.Route.{Route}
-use Rattle.course.specs.Routes.{route_at}
-use Rattle.floor.specs.Resting.{resting, Rests}
+use Rattle.std.proofs.Common.{◌<◌, ◌≢◌, length, arith, get_or-set_other, get_or-set_same, below_more}
 use Rattle.floor.proofs.Openings.{rests_in}
 use Rattle.floor.proofs.record.open.rest_all.Goals as goal
 
