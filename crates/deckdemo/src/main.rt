@@ -1,6 +1,8 @@
 // Shows small decks at work: the floor before a move, the answer, and the floor after it.
 //
 // For: seeing what the decks do. Promises: nothing beyond what the decks do. Rests on: grid, deck, roster, board.
+#![tactic(auto)]
+
 use anyhow::anyhow;
 use board::Board;
 use deck::Deck;
