@@ -1,5 +1,7 @@
 // Reads relations as text from standard input, one after another, and prints a line for each: the right members of its
 // first perfect matching, or `none`. Where the input is not such text it prints `malformed` and stops.
+#![tactic(auto)]
+
 use matchingtext::{TextTable, sheet_at, solve};
 use std::alloc::{AllocError, Global};
 use std::io;

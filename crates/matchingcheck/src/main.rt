@@ -1,5 +1,7 @@
 // Compares the search with brute force for every relation of one to four members: brute force goes through all lists of
 // right members in dictionary order, and takes the first one that is a perfect matching. The marks must come back clear.
+#![tactic(auto)]
+
 ghost use Rattle.std.specs.Prelude.{◌≡◌, ◌+◌, ◌*◌, ◌<◌, ◌≤◌, length};
 ghost use Rattle.matchings.specs.Reaching.{Clear};
 

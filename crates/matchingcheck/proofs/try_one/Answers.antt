@@ -10,7 +10,7 @@ pub compare-requires : goal.compare-requires
 compare-requires c =
     let n = c.args.n in
     let h : n * (n + 1) ≤ 4 * (n + 1) = mul-le-mul_right (n + 1) (omega arith) in
-    let k = c.write-cells.auto.cells in
+    let k = c.write_cells.auto.cells in
     record {
       size = (omega arith, (omega arith, (front n (omega arith), front n (omega arith))));
       room = (omega arith, (omega arith, omega arith));
