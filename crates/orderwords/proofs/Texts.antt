@@ -1,5 +1,5 @@
 -- One carrier and one slot more in a text.
-use Rattle.std.proofs.Common.{◌≡◌, ℕ, ◌+◌, Bool, cond, List, [], ◌∷◌, ◌++◌, codes, decimal, refl, add-one}
+use Rattle.std.proofs.Common.{◌≡◌, ℕ, ◌+◌, Bool, cond, [], ◌++◌, codes, decimal, add-one}
 use Rattle.rules.specs.Rules.{RuleView}
 use Rattle.orderwords.specs.Words.{carriers_text, slot_text, slots_text}
 

@@ -1,5 +1,5 @@
 -- An order in words.
-use Rattle.std.specs.Prelude.{ℕ, zero, suc, ◌/◌, ◌%◌, Bool, cond, List, [], ◌∷◌, ◌++◌, codes, decimal}
+use Rattle.std.specs.Prelude.{ℕ, zero, suc, ◌/◌, ◌%◌, Bool, cond, List, [], ◌++◌, codes, decimal}
 use Rattle.grid.specs.Sides.{slot_count}
 use Rattle.rules.specs.Rules.{RuleView}
 use Rattle.rules.specs.AnyRule.{any_meaning}

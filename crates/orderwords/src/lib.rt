@@ -2,6 +2,8 @@
 //
 // For: the program orderinfo. Promises: every byte of the text is the one that specs/Words.antt gives for the
 // order. Rests on: grid, rules, orderfile.
+#![tactic(auto)]
+
 ghost use Rattle.std.specs.Prelude.{◌≡◌, ◌+◌, ◌/◌, ◌%◌, ◌<◌, [], ◌++◌, IfOk, if◌then◌else◌, string_bytes, codes, decimal, OnOk};
 ghost use Rattle.rules.specs.AnyRule.{any_meaning};
 ghost use Rattle.orderwords.specs.Words.{carriers_text, slot_text, slots_text, order_text};

@@ -7,7 +7,7 @@ use Rattle.orderwords.proofs.slots_words.Goals as goal
 pub loop-slot-preserved : goal.loop-slot-preserved
 loop-slot-preserved g c =
     let v = g.R.Rule.meaning c.args.rule.now in
-    pushed c.as-str.result.now c.loop-slot.invariant c.in-ok-push-str.was c.push-str.ensures.bytes
+    pushed c.as_str.result.now c.loop-slot.invariant c.in_ok-push_str.was c.push_str.ensures.bytes
     ∙ ap (λ (x : List ℕ). slots_text v c.args.bays c.loop-slot.slot ++ x)
-    (c.as-str.ensures.value ∙ c.in-ok-line.ensures)
+    (c.as_str.ensures.value ∙ c.in_ok-line.ensures)
     ∙ sym (slots_more v c.args.bays c.loop-slot.slot)
