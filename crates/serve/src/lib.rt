@@ -3,6 +3,8 @@
 // For: programs that play orders and moves. Promises: what the source is told, call by call, is a chain of calls on that
 // floor and deck, so all that is promised of every chain holds of it; and whatever the source's own account keeps from
 // call to call holds at the end. Rests on: grid, deck, rules, chain, floor.
+#![tactic(auto)]
+
 ghost use Rattle.std.specs.Prelude.{◌≡◌, List, ◌∷◌};
 ghost use Rattle.deck.specs.Decks.{DeckView, SameFloor, Unmoved};
 ghost use Rattle.rules.specs.AnyRule.{any_meaning};

@@ -1,6 +1,5 @@
-use Rattle.std.proofs.Common.{◌≡◌, ℕ, List, ◌∷◌, vec_items, sym, ◌∙◌, subst, rules}
+use Rattle.std.proofs.Common.{ℕ, List, vec_items, ◌∙◌}
 use Rattle.rules.specs.AnyRule.{any_meaning}
-use Rattle.chain.specs.Calls.{Ordered}
 use Rattle.chain.specs.Chains.{Chain}
 use Rattle.chain.specs.Sheets.{Event}
 use Rattle.floor.specs.Shown.{shown}
@@ -13,13 +12,13 @@ returns-in-Order g c =
     let n = c.in-Order.ensures in
     let rule = any_meaning c.in-Order.rule in
     let marks = c.in-Order.marks in
-    let lent = c.deref-mut.ensures.value in
+    let lent = c.deref_mut.ensures.value in
     let view = g.D.Deck.view in
     let account = g.S.Source.account in
     order_played (shown c.args.floor.now) (shown c.order-answer.new.self) (view c.args.deck.now) (view c.next.new.deck)
     (account c.args.calls.now) (account c.next.new.self) (account c.ordered.new.self)
     (λ (m : List ℕ). g.S.Source.chosen c.next.new.self (Choice.order rule m))
-    rule c.order-answer.result (vec_items marks) c.deref-mut.result.now c.deref.result.now
+    rule c.order-answer.result (vec_items marks) c.deref_mut.result.now c.deref.result.now
     n.floor n.still n.kept n.chooses lent
     (c.deref.ensures.value ∙ marks_back (vec_items marks) c.order-answer.new.marks marks.len marks.ok.0 (c.order-answer.ensures.marks ∙ lent))
     c.order-answer.ensures.ordered c.ordered.ensures
