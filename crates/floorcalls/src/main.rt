@@ -1,5 +1,7 @@
 // Plays a chain of calls from standard input, one a line, and prints each as `call => answer`, so that two floors can be
 // compared call by call. docs/calls.md has the calls.
+#![tactic(auto)]
+
 mod any_deck;
 mod played;
 mod words;

@@ -1,5 +1,7 @@
 // Reads one order record from standard input, carries the order out over a new roster deck, and writes the script: the
 // line "LFS 1 h w L", and then a line of letters for each step. What is refused is the line "refused" with its number.
+#![tactic(auto)]
+
 ghost use Rattle.deck.specs.Decks.{Unchanged};
 
 use chain::fault::FloorFault;

@@ -1,6 +1,8 @@
 // Trials: worked cases, proved of the definitions, and tests of the same cases that run on every deck.
 //
 // For: whoever doubts the definitions. Promises: trials_hold, the one list of proved trials. Rests on: every library.
+#![tactic(auto)]
+
 ghost use Rattle.trials.specs.Trials.{Trials};
 
 #[cfg(test)]
