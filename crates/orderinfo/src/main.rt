@@ -1,5 +1,7 @@
 // Shows what order records ask for: of each file that is named, `-` being standard input, and of standard input where
 // none is named. A record that is refused is the line "refused" with the refusal's number.
+#![tactic(auto)]
+
 use orderfile::read::read;
 use orderwords::order_words;
 use std::io::Read;
