@@ -27,8 +27,8 @@ impl Deck for Roster {
     }
 
     fn is_ready(&self) -> bool
-        ensures value { result ≡ (roster_view self.now).ready }
-        ensures value_2 { result ≡ true }
+        ensures shown { result ≡ (roster_view self.now).ready }
+        ensures always { result ≡ true }
     {
         true
     }
