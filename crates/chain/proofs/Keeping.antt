@@ -88,6 +88,16 @@ module _ (h w : ℕ) (f : FloorView) (v : DeckView) (s : Sheet) (q : ℕ → Squ
   not_astray r marks e (OrderRefused.wrong_rule a b d k l) is = let z : ◌≡◌ {A = ℕ} 0 1 = cc in omega arith
   not_astray r marks e (OrderRefused.unfillable a b d k l m) is = let z : ◌≡◌ {A = ℕ} 0 1 = cc in omega arith
 
+  step_not_astray : (u : DeckView) (e : FloorFault) → StepRefused f v u e → e ≡ Astray → ⊥
+  step_not_astray u e (StepRefused.astray a off b) is = off x.stands
+  step_not_astray u e (StepRefused.no_next_move a b) is = let z : ◌≡◌ {A = ℕ} 0 1 = cc in omega arith
+  step_not_astray u e (StepRefused.go_refused a b d k) is = let z : ◌≡◌ {A = ℕ} 0 1 = cc in omega arith
+
+  back_not_astray : (u : DeckView) (e : FloorFault) → BackRefused f v u e → e ≡ Astray → ⊥
+  back_not_astray u e (BackRefused.astray a off b) is = off x.stands
+  back_not_astray u e (BackRefused.no_last_move a b) is = let z : ◌≡◌ {A = ℕ} 0 1 = cc in omega arith
+  back_not_astray u e (BackRefused.go_refused a b d k) is = let z : ◌≡◌ {A = ℕ} 0 1 = cc in omega arith
+
   -- Moves.
 
   way : Carried f.plan
@@ -245,6 +255,8 @@ module _ (h w : ℕ) (f : FloorView) (v : DeckView) (s : Sheet) (q : ℕ → Squ
         filled_if_fillable = λ r marks answer g is c m. filled r marks answer g is (checks c) m;
         refused_if_unfillable = λ r marks answer g is c none. refused r marks answer g is (checks c) none;
         never_astray = λ r marks g is. not_astray r marks Astray is.0 refl;
+        never_astray_in_step = λ g u is. step_not_astray u Astray is.0 refl;
+        never_astray_in_back = λ g u is. back_not_astray u Astray is.0 refl;
         never_two_on_a_square = x.sound;
         never_an_exchange_in_step = step_apart;
         never_an_exchange_in_back = back_apart;

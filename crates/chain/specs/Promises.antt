@@ -47,9 +47,11 @@ pub record Promised (h w : ℕ) (f : FloorView) (v : DeckView) (es : List Event)
       → EarlierChecks (slot_count h w) (sheet_of es) r marks
       → (Fillable (slot_count h w) r → ⊥)
       → answer ≡ Err Unfillable
-  -- the record never puts a carrier where it is not
+  -- the record never puts a carrier where it is not, so no order, step or back is refused for that
   pub never_astray :
       (r : RuleView) (marks : List ℕ) (g : FloorView) → Ordered f v r marks (Err Astray) g → ⊥
+  pub never_astray_in_step : (g : FloorView) (u : DeckView) → Stepped f v (Err Astray) g u → ⊥
+  pub never_astray_in_back : (g : FloorView) (u : DeckView) → Backed f v (Err Astray) g u → ⊥
   -- after no call do two carriers share a square
   pub never_two_on_a_square : Sound v
   -- in no call do two exchange squares
