@@ -10,7 +10,7 @@ use matching::{Matched, Relation, WorkList, first_matching};
 use std::alloc::{AllocError, Global};
 
 // Whether a relation has a perfect matching; the first one comes into `mate`. The other tables are lent for the work.
-fn search<R: Relation>(
+fn find_first<R: Relation>(
     rel: &R,
     mate: &mut [usize],
     block: &mut [usize],
@@ -41,7 +41,7 @@ fn first_of<R: Relation>(heap: Global, rel: &R, n: usize) -> Result<Option<Vec<u
     let mut marks = vec![in heap; 0u8; n]?;
     let mut members = vec![in heap; 0usize; n]?;
     let mut parents = vec![in heap; 0usize; n]?;
-    if search(
+    if find_first(
         rel,
         &mut mate,
         &mut block,
@@ -70,7 +70,7 @@ pub fn first_in(
     ensures found { MatchBool result (First (allowed_by table.now.rows.now table.now.count) table.now.count mate.new) (Unmatched (allowed_by table.now.rows.now table.now.count) table.now.count) }
     ensures marks { marks.new ≡ marks.old }
 {
-    search(table, mate, block, marks, members, parents)
+    find_first(table, mate, block, marks, members, parents)
 }
 
 // The first perfect matching, by tables that are made for it; none where there is none.
