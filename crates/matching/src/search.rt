@@ -65,19 +65,25 @@ fn gather(work: &mut WorkList, reached: usize, count: usize) -> usize
     tail
 }
 
-// Gives `next` a right member that it allows and that nobody before it has, in exchange for its own, if there is one.
+// Gives `next` the least right member that it allows and that nobody before it has, in exchange for its own, if there is one.
 fn take_free<R: Relation>(rel: &R, next: usize, mate: &mut [usize]) -> bool
     requires size { (length mate.old ≡ R.Relation.size rel.now) × (next < length mate.old) }
     requires held { Held (loose (R.Relation.allowed rel.now) next) (length mate.old) mate.old }
     ensures { MatchBool result (Held (loose (R.Relation.allowed rel.now) (next + 1)) (length mate.old) mate.new) (mate.new ≡ mate.old) }
 {
+    let mut best = None;
+    let mut least = mate.len();
     for k in next..mate.len() {
-        if rel.allows(next, mate[k]) {
-            mate.swap(next, k);
-            return true;
+        if mate[k] < least && rel.allows(next, mate[k]) {
+            best = Some(k);
+            least = mate[k];
         }
     }
-    false
+    let Some(k) = best else {
+        return false;
+    };
+    mate.swap(next, k);
+    true
 }
 
 // Some perfect matching, or some left members that block.
