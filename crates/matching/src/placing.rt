@@ -69,6 +69,7 @@ pub fn place<R: Relation>(
     mate: &mut [usize],
     block: &[usize],
     marks: &mut [u8],
+    seen: &mut [u8],
     work: &mut WorkList,
 ) -> Placing
     requires size { (length mate.old ≡ R.Relation.size rel.now) × ((length mate.old ≤ length marks.old) × (length block.now ≡ length mate.old)) }
@@ -91,7 +92,7 @@ pub fn place<R: Relation>(
         marks,
         count: mate.len(),
     };
-    let count = reach(rel, quest, goal, movable, mate, guard.marks, work);
+    let count = reach(rel, quest, goal, movable, mate, guard.marks, seen, work);
     let sealed = if guard.marks[mate[goal]] == 0 {
         count
     } else {

@@ -1,9 +1,10 @@
 ghost use Rattle.std.specs.Prelude.{◌≡◌, ℕ, ◌+◌, ◌<◌, ◌≤◌, length};
 ghost use Rattle.matchings.specs.Matchings.{◌!◌};
-ghost use Rattle.matchings.specs.Reaching.{Clear, Beyond, loose, Inj, Lined, Movable, Same, Reached, Closed, Ended, Joins};
+ghost use Rattle.matchings.specs.Reaching.{Clear, Beyond, loose, Inj, Lined, Movable, Same, Reached, Closed, Ended, Joins, Added};
 ghost use Rattle.matching.specs.WorkLists.{members_of, parents_of, Room, SameRoom};
 
 use crate::relation::{Relation, may};
+use crate::ticks::clear;
 use crate::work_list::WorkList;
 
 // What the search for one left member goes by: members from `wild` on allow everything, those below `fixed` keep what they
@@ -55,6 +56,7 @@ pub fn visit<R: Relation>(
     requires closed { Closed (loose (R.Relation.allowed rel.now) quest.wild) movable mate.now (members_of work.old) marks.old head }
     ensures movable { Movable (length mate.now) quest.fixed movable (members_of work.new) }
     ensures same { Same movable (members_of work.old) (members_of work.new) }
+    ensures front { (k : ℕ) → k < count → members_of work.new ! k ≡ members_of work.old ! k }
     ensures reached { Reached (loose (R.Relation.allowed rel.now) quest.wild) (length mate.now) quest.fixed quest.left mate.now (members_of work.new) (parents_of work.new) marks.new result }
     ensures closed { Closed (loose (R.Relation.allowed rel.now) quest.wild) movable mate.now (members_of work.new) marks.new (head + 1) }
     ensures ahead { (count ≤ result) × (result ≤ movable) }
@@ -97,8 +99,26 @@ fn find<R: Relation>(
     None
 }
 
+// Notes the class of a right member; whether it was not noted before. One that is not known, or past the end of the notes,
+// always passes for new.
+fn is_new<R: Relation>(rel: &R, right: usize, seen: &mut [u8]) -> bool
+    requires { right < R.Relation.size rel.now }
+    ensures { Added (R.Relation.allowed rel.now) (R.Relation.size rel.now) (R.Relation.classes rel.now) right seen.old seen.new result }
+{
+    let Some(class) = rel.class(right) else {
+        return true;
+    };
+    if class >= seen.len() {
+        return true;
+    }
+    let fresh = seen[class] == 0;
+    seen[class] = 1;
+    fresh
+}
+
 // Those that come to `left` by such steps, `left` first, until `goal` is among them; the right members that they have are
-// ticked. How many they are.
+// ticked. How many they are. Where a right member of the same class was visited before, all who allow it are there already:
+// the classes visited are noted in `seen`.
 pub fn reach<R: Relation>(
     rel: &R,
     quest: Quest,
@@ -106,6 +126,7 @@ pub fn reach<R: Relation>(
     movable: usize,
     mate: &[usize],
     marks: &mut [u8],
+    seen: &mut [u8],
     work: &mut WorkList,
 ) -> usize
     requires size { (length mate.now ≡ R.Relation.size rel.now) × (length mate.now ≤ length marks.old) }
@@ -120,6 +141,7 @@ pub fn reach<R: Relation>(
     ensures rest { Beyond (length mate.now) marks.old marks.new }
     ensures room { SameRoom work.old work.new }
 {
+    clear(seen, seen.len());
     marks[mate[quest.left]] = 1;
     let mut asked = 0;
     let mut head = 0;
@@ -131,7 +153,9 @@ pub fn reach<R: Relation>(
             return tail + 1;
         }
         asked = tail;
-        tail = visit(rel, quest, movable, mate, head, tail, marks, work);
+        if is_new(rel, mate[work.member(head)], seen) {
+            tail = visit(rel, quest, movable, mate, head, tail, marks, work);
+        }
         head += 1;
     }
     tail

@@ -1,8 +1,8 @@
-ghost use Rattle.std.specs.Prelude.{◌≡◌, ℕ, ◌+◌, ◌-◌, ◌<◌, ◌≤◌, length};
+ghost use Rattle.std.specs.Prelude.{◌≡◌, ℕ, ◌+◌, ◌-◌, ◌<◌, ◌≤◌, length, MatchBool};
 ghost use Rattle.matchings.specs.Matchings.{◌!◌, First};
 ghost use Rattle.matchings.specs.Regular.{RegularCounts};
-ghost use Rattle.matchings.specs.Reaching.{Clear};
-ghost use Rattle.matchings.specs.Placing.{Held, Split, Gathered};
+ghost use Rattle.matchings.specs.Reaching.{Clear, Inj, loose};
+ghost use Rattle.matchings.specs.Placing.{Held, Split, Gathered, HasLeast};
 ghost use Rattle.matching.specs.WorkLists.{members_of, Room, SameRoom};
 ghost use Rattle.matching.specs.Answers.{Answer, Exactly, Settled};
 
@@ -10,6 +10,9 @@ use crate::placing::{Placing, place};
 use crate::reaching::Quest;
 use crate::relation::Relation;
 use crate::work_list::WorkList;
+
+// The search tells this many classes of right members apart; all others are visited each time.
+const NOTES: usize = 8192;
 
 // The first perfect matching is found; or so many members at the front of the work list block every one.
 #[derive(Drop)]
@@ -62,12 +65,34 @@ fn gather(work: &mut WorkList, reached: usize, count: usize) -> usize
     tail
 }
 
+// Gives `next` the least right member that it allows and that nobody before it has, in exchange for its own, if there is one.
+fn take_free<R: Relation>(rel: &R, next: usize, mate: &mut [usize]) -> bool
+    requires size { (length mate.old ≡ R.Relation.size rel.now) × (next < length mate.old) }
+    requires held { Held (loose (R.Relation.allowed rel.now) next) (length mate.old) mate.old }
+    ensures { MatchBool result (Held (loose (R.Relation.allowed rel.now) (next + 1)) (length mate.old) mate.new) (mate.new ≡ mate.old) }
+{
+    let mut best = None;
+    let mut least = mate.len();
+    for k in next..mate.len() {
+        if mate[k] < least && rel.allows(next, mate[k]) {
+            best = Some(k);
+            least = mate[k];
+        }
+    }
+    let Some(k) = best else {
+        return false;
+    };
+    mate.swap(next, k);
+    true
+}
+
 // Some perfect matching, or some left members that block.
 fn settle<R: Relation>(
     rel: &R,
     mate: &mut [usize],
     block: &[usize],
     marks: &mut [u8],
+    seen: &mut [u8],
     work: &mut WorkList,
 ) -> Matched
     requires size { (length mate.old ≡ R.Relation.size rel.now) × ((length mate.old ≤ length marks.old) × (length block.now ≡ length mate.old)) }
@@ -80,25 +105,34 @@ fn settle<R: Relation>(
     number(mate);
     let n = mate.len();
     for next in 0..n {
-        let wild = next + 1;
-        let alone = Quest {
-            wild,
-            fixed: next,
-            left: next,
-        };
-        if let Placing::Given { .. } = place(rel, alone, mate, block, marks, work) {
+        if take_free(rel, next, mate) {
             continue;
         }
-        let among_all = Quest {
-            wild,
+        let quest = Quest {
+            wild: next + 1,
             fixed: 0,
             left: next,
         };
-        if let Placing::Stuck { reached } = place(rel, among_all, mate, block, marks, work) {
+        if let Placing::Stuck { reached } = place(rel, quest, mate, block, marks, seen, work) {
             return Matched::Blocked(gather(work, reached, n));
         }
     }
     Matched::Found
+}
+
+// Whether no later member of the block of `left` has a lesser right member that `left` allows.
+fn has_least<R: Relation>(rel: &R, left: usize, mate: &[usize], block: &[usize]) -> bool
+    requires size { (length mate.now ≡ R.Relation.size rel.now) × ((length block.now ≡ length mate.now) × (left < length mate.now)) }
+    requires inj { Inj (length mate.now) (λ k. mate.now ! k) }
+    ensures { MatchBool result (HasLeast (R.Relation.allowed rel.now) (length mate.now) left block.now mate.now) (Unit {0}) }
+{
+    let held = mate[left];
+    for l in left + 1..mate.len() {
+        if mate[l] < held && block[l] == block[left] && rel.allows(left, mate[l]) {
+            return false;
+        }
+    }
+    true
 }
 
 // Of a perfect matching the first in dictionary order.
@@ -107,6 +141,7 @@ fn refine<R: Relation>(
     mate: &mut [usize],
     block: &mut [usize],
     marks: &mut [u8],
+    seen: &mut [u8],
     work: &mut WorkList,
 )
     requires size { (length mate.old ≡ R.Relation.size rel.now) × ((length mate.old ≤ length marks.old) × (length block.old ≡ length mate.old)) }
@@ -119,12 +154,15 @@ fn refine<R: Relation>(
 {
     let n = mate.len();
     for left in 0..n {
+        if has_least(rel, left, mate, block) {
+            continue;
+        }
         let quest = Quest {
             wild: n,
             fixed: left,
             left,
         };
-        if let Placing::Given { sealed } = place(rel, quest, mate, block, marks, work) {
+        if let Placing::Given { sealed } = place(rel, quest, mate, block, marks, seen, work) {
             split(block, work, sealed, left + 1);
         }
     }
@@ -148,9 +186,11 @@ pub fn first_matching<R: Relation>(
     ensures room { SameRoom work.old work.new }
 {
     unite(block);
-    if let Matched::Blocked(count) = settle(rel, mate, block, marks, work) {
+    let mut notes = [0; NOTES];
+    let seen = &mut notes[..mate.len().min(NOTES)];
+    if let Matched::Blocked(count) = settle(rel, mate, block, marks, seen, work) {
         return Matched::Blocked(count);
     }
-    refine(rel, mate, block, marks, work);
+    refine(rel, mate, block, marks, seen, work);
     Matched::Found
 }

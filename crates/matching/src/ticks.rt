@@ -8,7 +8,7 @@ pub struct Ticks<'a> {
 }
 
 // Zero into each of the first `count` marks.
-fn clear(marks: &mut [u8], count: usize)
+pub fn clear(marks: &mut [u8], count: usize)
     requires { count ≤ length marks.old }
     ensures zero { Clear marks.new count }
     ensures rest { Beyond count marks.old marks.new }

@@ -8,3 +8,4 @@ pub mod Choosing
 pub mod Rotation
 pub mod Phases
 pub mod Places
+pub mod Shortcuts

@@ -1,10 +1,11 @@
 -- How the reached members grow: the first one, one more, one visit, the goal.
-use Rattle.std.proofs.Common.{◌≡◌, ℕ, ◌+◌, ◌-◌, ◌<◌, ◌≤◌, Bool, true, false, ◌≢◌, List, length, set, sym, refl, ap, ◌∙◌, subst, ⊎_elim, arith, get_or-set_other, get_or-set_same}
+use Rattle.std.proofs.Common.{◌≡◌, ℕ, ◌+◌, ◌-◌, ◌<◌, ◌≤◌, Bool, true, false, cond, leb, ◌≢◌, List, length, set, sym, refl, ap, ◌∙◌, subst, ⊎_elim, arith, get_or-set_other, get_or-set_same}
+use Rattle.std.proofs.lemmas.List.{get_or_past}
 use Rattle.std.proofs.lemmas.Bool.{cases_eq, cases_lt, both_ways}
 use Rattle.matchings.proofs.Counting.{room}
 use Rattle.matchings.proofs.Lines.{same_two, exchanged, same_exchanged}
 use Rattle.matchings.specs.Matchings.{◌!◌}
-use Rattle.matchings.specs.Reaching.{Clear, Movable, Same, Reached, Closed}
+use Rattle.matchings.specs.Reaching.{Clear, loose, Inj, Movable, Same, Reached, Closed, IsClass, Noted, Added}
 
 -- the member l joins the reached ones at their end, by the right member of the one at `head`
 module _ (A : ℕ → ℕ → Bool) (n fixed left : ℕ) (mate members parents marks : List ℕ) (tail head l : ℕ)
@@ -97,6 +98,7 @@ pub record Turn (A : ℕ → ℕ → Bool) (n fixed left m : ℕ) (mate line : L
   pub grows : count ≤ tail
   pub behind : tail ≤ k
   pub here : members ! head ≡ q
+  pub front : (j : ℕ) → j < count → members ! j ≡ line ! j
 
 module _ (A : ℕ → ℕ → Bool) (n fixed left m : ℕ) (mate line : List ℕ) (head q count k : ℕ) (members parents marks : List ℕ) (tail : ℕ)
     (t : Turn A n fixed left m mate line head q count k members parents marks tail) (next target : ℕ) (ne : next ≡ members ! k) (te : target ≡ mate ! q) where
@@ -111,6 +113,7 @@ module _ (A : ℕ → ℕ → Bool) (n fixed left m : ℕ) (mate line : List ℕ
     grows = t.grows;
     behind = let b = t.behind in omega arith;
     here = t.here;
+    front = t.front;
   }
 
   pub turn_push : (Q P : List ℕ) → P ≡ set parents tail head → k < m → n ≤ length parents → mate ! next < length marks → A next target ≡ true
@@ -139,6 +142,7 @@ module _ (A : ℕ → ℕ → Bool) (n fixed left m : ℕ) (mate line : List ℕ
         grows = let g = t.grows in omega arith;
         behind = omega arith;
         here = qk head ah ∙ t.here;
+        front = λ j h. let g = t.grows in qk j (omega arith) ∙ t.front j h;
       }
 
 module _ (A : ℕ → ℕ → Bool) (n fixed left m : ℕ) (mate line : List ℕ) (head q count k : ℕ) (members parents marks : List ℕ) (tail : ℕ)
@@ -174,3 +178,49 @@ module _ (A : ℕ → ℕ → Bool) (n fixed left : ℕ) (mate Q parents marks :
     from = λ r lr h. ⊎_elim (λ e. (0, omega arith, ap (λ x. mate ! x) q0 ∙ sym e))
         (λ d. let a = get_or-set_other marks (mate ! left) r 1 0 d in let b = clear r lr in absurd (omega arith)) (cases_eq r (mate ! left));
   }
+
+-- those not settled yet allow everything, of every class
+pub loose_class : (A : ℕ → ℕ → Bool) (n wild : ℕ) (class : ℕ → ℕ) (right c : ℕ) → IsClass A n class right c → IsClass (loose A wild) n class right c
+loose_class A n wild class right c is = (is.0, λ l s ll ls e. ap (λ (b : Bool). cond (leb wild l) true b) (is.1 l s ll ls e))
+
+-- nobody new allows a right member of a class that was visited before
+pub closed_skip :
+    (A : ℕ → ℕ → Bool) (n fixed m : ℕ) (class : ℕ → ℕ) (mate members marks seen : List ℕ) (head : ℕ)
+    → IsClass A n class (mate ! (members ! head)) (class (mate ! (members ! head)))
+    → Inj n (λ k. mate ! k)
+    → Movable n fixed m members
+    → head < m
+    → Closed A m mate members marks head
+    → Noted class mate members head seen
+    → 0 < seen ! class (mate ! (members ! head))
+    → Closed A m mate members marks (head + 1)
+closed_skip A n fixed m class mate members marks seen head is inj movable lh closed noted known i j li lj a =
+    let right : (k : ℕ) → k < m → mate ! (members ! k) < n = λ k h. inj.below (members ! k) (movable.below k h) in
+    ⊎_elim
+    (λ e.
+    let f = noted (class (mate ! (members ! head))) known in
+    let lf = f.1 in
+    let same = is.1 (members ! j) (mate ! (members ! f.0)) (movable.below j lj) (right f.0 (omega arith)) f.2 in
+    closed f.0 j lf lj (same ∙ subst (λ (x : ℕ). A (members ! j) (mate ! (members ! x)) ≡ true) e a))
+    (λ d. closed i j (omega arith) lj a) (cases_eq i head)
+
+-- a table of zeros notes none
+pub none_noted : (seen : List ℕ) → Clear seen (length seen) → (c : ℕ) → 0 < seen ! c → ⊥
+none_noted seen clear c h =
+    ⊎_elim (λ l. let z = clear c l in omega arith) (λ l. let z = get_or_past seen c 0 l in omega arith) (cases_lt c (length seen))
+
+-- one class more is noted, that of the right member of the member at `head`
+pub noted_more :
+    (A : ℕ → ℕ → Bool) (n : ℕ) (class : ℕ → ℕ) (mate members Q : List ℕ) (head count : ℕ) (old new : List ℕ) (fresh : Bool)
+    → Noted class mate members head old
+    → Added A n class (mate ! (members ! head)) old new fresh
+    → head < count
+    → ((k : ℕ) → k < count → Q ! k ≡ members ! k)
+    → Noted class mate Q (head + 1) new
+noted_more A n class mate members Q head count old new fresh before added lh front c h =
+    let at : (k : ℕ) → k < count → class (mate ! (Q ! k)) ≡ class (mate ! (members ! k)) =
+    λ k l. ap (λ (x : ℕ). class (mate ! x)) (front k l) in
+    ⊎_elim
+    (λ e. (head, omega arith, at head lh ∙ sym e))
+    (λ o. let f = before c o in let l = f.1 in (f.0, omega arith, at f.0 (omega arith) ∙ f.2))
+    (added.only c h)

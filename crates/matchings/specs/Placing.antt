@@ -37,6 +37,10 @@ pub record Placed (A : ℕ → ℕ → Bool) (n fixed left : ℕ) (old new : Lis
   pub kept : (l : ℕ) → l < fixed → new ! l ≡ old ! l
   pub least : (p : ℕ → ℕ) → Like A n fixed old p → new ! left ≤ p left
 
+-- no later member of the block of `left` has a lesser right member that `left` allows
+abbrev pub HasLeast : (A : ℕ → ℕ → Bool) (n left : ℕ) (block mate : List ℕ) → Type 0
+HasLeast A n left block mate = (l : ℕ) → left < l → l < n → block ! l ≡ block ! left → A left (mate ! l) ≡ true → mate ! left ≤ mate ! l
+
 -- the n members, of which the first `reached` are those that come to `left`: neither `left` nor one of the others allows a right member that they have
 pub record Hemmed (A : ℕ → ℕ → Bool) (n left : ℕ) (mate members : List ℕ) (reached : ℕ) : Type 0 where
   pub inj : Inj n (λ k. mate ! k)

@@ -66,6 +66,19 @@ pub record Reached (A : ℕ → ℕ → Bool) (n fixed left : ℕ) (mate members
 abbrev pub Closed : (A : ℕ → ℕ → Bool) (m : ℕ) (mate members marks : List ℕ) (head : ℕ) → Type 0
 Closed A m mate members marks head = (k j : ℕ) → k < head → j < m → A (members ! j) (mate ! (members ! k)) ≡ true → 0 < marks ! (mate ! (members ! j))
 
+-- c is the class of a right member, and all of that class are allowed by the same left members
+abbrev pub IsClass : (A : ℕ → ℕ → Bool) (n : ℕ) (class : ℕ → ℕ) (right c : ℕ) → Type 0
+IsClass A n class right c = (class right ≡ c) × ((l s : ℕ) → l < n → s < n → class s ≡ c → A l s ≡ A l right)
+
+-- a class is noted only where one of the first `head` members has a right member of it
+abbrev pub Noted : (class : ℕ → ℕ) (mate members : List ℕ) (head : ℕ) (seen : List ℕ) → Type 0
+Noted class mate members head seen = (c : ℕ) → 0 < seen ! c → (k : ℕ) × (k < head) × (class (mate ! (members ! k)) ≡ c)
+
+-- no class but that of a right member is noted anew; unless the member is fresh, its class is known and was noted before
+pub record Added (A : ℕ → ℕ → Bool) (n : ℕ) (class : ℕ → ℕ) (right : ℕ) (old new : List ℕ) (fresh : Bool) : Type 0 where
+  pub known : fresh ≡ false → IsClass A n class right (class right) × (0 < old ! class right)
+  pub only : (c : ℕ) → 0 < new ! c → (c ≡ class right) ⊎ (0 < old ! c)
+
 -- all that can be reached among the members of `line` is
 pub record Exhausted (A : ℕ → ℕ → Bool) (n fixed m : ℕ) (mate line members marks : List ℕ) (tail : ℕ) : Type 0 where
   pub closed : Closed A m mate members marks tail

@@ -1,3 +1,4 @@
 pub mod Sheets
 pub mod Pages
 pub mod Solutions
+pub mod Classes

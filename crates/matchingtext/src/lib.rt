@@ -5,6 +5,7 @@
 // the functions ask what their `requires` says: they are offered to the programs only. It rests on the crate `matching`.
 #![tactic(auto)]
 
+mod classes;
 mod reading;
 mod solving;
 mod table;

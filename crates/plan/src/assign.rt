@@ -33,8 +33,14 @@ impl<R: Rule> Relation for Admission<'_, R> {
 
     ghost allowed = { λ a. (R.Rule.meaning a.rule.now).admits };
 
+    ghost classes = { λ a. R.Rule.classes a.rule.now };
+
     fn allows(&self, left: usize, right: usize) -> bool {
         self.rule.admits(left, right)
+    }
+
+    fn class(&self, right: usize) -> Option<usize> {
+        self.rule.class(right)
     }
 }
 

@@ -1,5 +1,5 @@
 -- What a kind rule means, and when it is made.
-use Rattle.std.specs.Prelude.{◌≡◌, ℕ, ◌/◌, ◌%◌, ◌^◌, Bool, true, false, ◌&&◌, List, length, Ok, Err, vec_items, Result, ◌==◌, nat_lt, slice_index, refl}
+use Rattle.std.specs.Prelude.{◌≡◌, ℕ, ◌/◌, ◌%◌, ◌^◌, Bool, true, false, ◌&&◌, List, length, Ok, Err, vec_items, Result, ◌==◌, nat_lt, slice_index, slice_index_or, refl}
 use Rattle.std.proofs.Common.{ap, le-ltb}
 use Rattle.rules.specs.Rules.{RuleView, Bounded}
 use Rattle.rules.specs.Entries.{GoodKinds}
@@ -46,3 +46,7 @@ masking_bounded kinds masks =
 -- outside its numbers the rule replies no
 pub kind_bounded : (r : KindRule) → Bounded (kind_meaning r)
 kind_bounded r = masking_bounded (vec_items r.kinds) (vec_items r.masks)
+
+-- the carriers of each kind are a class, and those that there are not are one more
+abbrev pub kind_class : KindRule → ℕ → ℕ
+kind_class r carrier = slice_index_or (vec_items r.kinds) carrier 16

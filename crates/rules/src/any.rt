@@ -1,4 +1,4 @@
-ghost use Rattle.rules.specs.AnyRule.{any_meaning, any_bounded};
+ghost use Rattle.rules.specs.AnyRule.{any_meaning, any_bounded, any_class};
 
 use crate::Rule;
 use crate::kind::KindRule;
@@ -15,6 +15,8 @@ impl Rule for AnyRule {
     ghost meaning = { any_meaning };
 
     ghost bounded = { any_bounded };
+
+    ghost classes = { any_class };
 
     fn slots(&self) -> usize {
         match self {
@@ -34,6 +36,13 @@ impl Rule for AnyRule {
         match self {
             AnyRule::Number(rule) => rule.admits(slot, carrier),
             AnyRule::Kind(rule) => rule.admits(slot, carrier),
+        }
+    }
+
+    fn class(&self, carrier: usize) -> Option<usize> {
+        match self {
+            AnyRule::Number(rule) => rule.class(carrier),
+            AnyRule::Kind(rule) => rule.class(carrier),
         }
     }
 }

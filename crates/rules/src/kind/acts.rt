@@ -1,6 +1,6 @@
 ghost use Rattle.std.specs.Prelude.{◌≡◌, ℕ, ◌<◌, length, vec_len, MatchBool};
 ghost use Rattle.rules.specs.Entries.{GoodKinds};
-ghost use Rattle.rules.specs.KindRule.{KindMade, has_bit, kind_meaning, kind_bounded};
+ghost use Rattle.rules.specs.KindRule.{KindMade, has_bit, kind_meaning, kind_bounded, kind_class};
 
 use crate::Rule;
 use crate::fault::RuleFault;
@@ -57,6 +57,8 @@ impl Rule for KindRule {
 
     ghost bounded = { kind_bounded };
 
+    ghost classes = { kind_class };
+
     fn slots(&self) -> usize {
         self.masks.len()
     }
@@ -70,5 +72,12 @@ impl Rule for KindRule {
             return false;
         }
         has_bit(self.masks[slot], self.kinds[carrier])
+    }
+
+    fn class(&self, carrier: usize) -> Option<usize> {
+        if carrier < self.kinds.len() {
+            return Some(usize::from(self.kinds[carrier]));
+        }
+        Some(usize::from(KINDS))
     }
 }

@@ -1,9 +1,12 @@
-use Rattle.std.proofs.Common.{◌<◌, length, refl, ◌∙◌, inr, arith, length-set, get_or-set_other, get_or-set_same}
+use Rattle.std.proofs.Common.{ℕ, Bool, true, false, ◌<◌, length, sym, refl, ◌∙◌, subst, inr, arith, length-set, get_or-set_other, get_or-set_same}
 use Rattle.matchings.specs.Matchings.{◌!◌}
 use Rattle.matchings.proofs.Lines.{same_as, same_two}
-use Rattle.matchings.proofs.Reaching.{started, goal_fits, joined}
+use Rattle.matchings.specs.Reaching.{loose, IsClass, Added}
+use Rattle.matchings.proofs.Reaching.{started, goal_fits, joined, loose_class, closed_skip, noted_more, none_noted}
+use Rattle.matching.specs.WorkLists.{members_of}
 use Rattle.matching.proofs.Rooms.{room_two, room_after}
 use Rattle.matching.proofs.reaching.reach.Goals as goal
+use Rattle.matching.proofs.reaching.reach.Goals.{then-is_new, else-is_new}
 
 pub loop-head-init : goal.loop-head-init
 loop-head-init g c = (
@@ -15,6 +18,7 @@ loop-head-init g c = (
   same_as _ _,
   omega arith,
   record { own = refl; theirs = refl },
+  λ k h. absurd (none_noted c.clear.new.marks (λ j l. c.clear.ensures.zero j (omega (arith, c.clear.auto.marks))) k h),
 )
 
 pub join-requires : goal.join-requires
@@ -45,13 +49,42 @@ pub overflow_add-head : goal.overflow_add-head
 overflow_add-head g c = let h = c.loop-head.invariant.0.fits in omega arith
 
 pub loop-head-preserved : goal.loop-head-preserved
-loop-head-preserved g c = (
-  c.visit-tail.ensures.reached,
-  c.visit-tail.ensures.closed,
-  omega (arith, c.visit-tail.ensures.ahead),
-  λ k h. c.visit-tail.ensures.rest k h ∙ c.loop-head.invariant.3 k h,
-  c.visit-tail.ensures.movable,
-  same_two _ _ _ _ c.loop-head.invariant.5 c.visit-tail.ensures.same,
-  c.visit-tail.ensures.ahead.1,
-  room_two _ _ _ c.loop-head.invariant.7 c.visit-tail.ensures.room,
-)
+loop-head-preserved g c =
+    let A = loose (g.R.Relation.allowed c.args.rel.now) c.args.quest.wild in
+    let R = g.R.Relation.allowed c.args.rel.now in
+    let n = g.R.Relation.size c.args.rel.now in
+    let class = g.R.Relation.classes c.args.rel.now in
+    let mate = c.args.mate.now in
+    let members = members_of c.loop-head.work in
+    let head = c.loop-head.head in
+    let e = c.member.ensures in
+    let added : (fresh : Bool) → Added R n class (mate ! c.member.result) c.loop-head.seen c.is_new.new.seen fresh → Added R n class (mate ! (members ! head)) c.loop-head.seen c.is_new.new.seen fresh =
+    λ fresh h. subst (λ (x : ℕ). Added R n class (mate ! x) c.loop-head.seen c.is_new.new.seen fresh) e h in
+    elim c.if-is_new.branch [
+      | then-is_new w ↦ simp (w.work-is, w.marks-is, w.tail-is) (
+        w.visit-tail.ensures.reached,
+        w.visit-tail.ensures.closed,
+        omega (arith, w.visit-tail.ensures.ahead),
+        λ k h. w.visit-tail.ensures.rest k h ∙ c.loop-head.invariant.3 k h,
+        w.visit-tail.ensures.movable,
+        same_two _ _ _ _ c.loop-head.invariant.5 w.visit-tail.ensures.same,
+        w.visit-tail.ensures.ahead.1,
+        room_two _ _ _ c.loop-head.invariant.7 w.visit-tail.ensures.room,
+        noted_more _ _ class mate members _ head c.loop-head.tail _ _ _ c.loop-head.invariant.8 (added true w.if-is_new.ensures) (omega arith) w.visit-tail.ensures.front,
+      )
+      | else-is_new w ↦ simp (w.work-is, w.marks-is, w.tail-is) (
+        c.loop-head.invariant.0,
+        closed_skip A (length mate) _ _ class mate members _ _ head
+            (subst (λ (x : ℕ). IsClass A x class (mate ! (members ! head)) (class (mate ! (members ! head)))) (sym c.requires.size.0)
+            (loose_class _ _ _ class _ _ ((added false w.if-is_new.ensures).known refl).0))
+            c.requires.inj c.loop-head.invariant.4 (omega arith) c.loop-head.invariant.1 c.loop-head.invariant.8
+            ((added false w.if-is_new.ensures).known refl).1,
+        omega arith,
+        c.loop-head.invariant.3,
+        c.loop-head.invariant.4,
+        c.loop-head.invariant.5,
+        c.loop-head.invariant.6,
+        c.loop-head.invariant.7,
+        noted_more _ _ class mate members _ head c.loop-head.tail _ _ _ c.loop-head.invariant.8 (added false w.if-is_new.ensures) (omega arith) (λ k h. refl),
+      )
+    ]

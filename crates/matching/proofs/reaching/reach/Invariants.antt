@@ -1,5 +1,5 @@
 use Rattle.std.proofs.Common.{◌-◌, ◌≤◌, length}
-use Rattle.matchings.specs.Reaching.{loose, Movable, Same, Reached, Closed, Beyond}
+use Rattle.matchings.specs.Reaching.{loose, Movable, Same, Reached, Closed, Beyond, Noted}
 use Rattle.matching.specs.WorkLists.{members_of, parents_of, SameRoom}
 use Rattle.matching.proofs.reaching.reach.Given as goal
 
@@ -13,6 +13,7 @@ invariant-loop-head g l =
     × Same l.movable (members_of l.initial.work) (members_of l.work)
     × (l.tail ≤ l.movable)
     × SameRoom l.initial.work l.work
+    × Noted (g.R.Relation.classes l.rel) l.mate (members_of l.work) l.head l.seen
 
 abbrev pub decreases-loop-head : goal.decreases-loop-head
 decreases-loop-head g l = length l.mate - l.head

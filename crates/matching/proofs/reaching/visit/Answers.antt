@@ -42,6 +42,7 @@ returns g c =
     record {
       movable = c.loop-k.invariant.0.movable;
       same = c.loop-k.invariant.0.same;
+      front = c.loop-k.invariant.0.front;
       reached = c.loop-k.invariant.0.reached;
       closed = turn_done _ _ _ _ _ _ _ _ _ _ _ _ _ _ _ c.loop-k.invariant.0 (omega (arith, c.loop-k.auto.k-end f));
       ahead = (c.loop-k.invariant.0.grows, omega (arith, c.loop-k.auto.k-end f, c.loop-k.invariant.0.behind));
@@ -61,6 +62,7 @@ loop-k-init g c = (
     grows = omega arith;
     behind = omega arith;
     here = refl;
+    front = λ j h. refl;
   },
   λ k h. refl,
   record { own = refl; theirs = refl },

@@ -1,8 +1,10 @@
-use Rattle.std.proofs.Common.{◌≡◌, ℕ, ◌+◌, length, get_or, refl, ap, ◌∙◌, subst, arith}
+use Rattle.std.proofs.Common.{◌≡◌, ℕ, ◌+◌, [], length, get_or, refl, ap, ◌∙◌, subst, arith}
 use Rattle.matchings.specs.Matchings.{First}
 use Rattle.matchings.specs.Reaching.{loose}
 use Rattle.matchings.specs.Placing.{Confined}
 use Rattle.matchings.proofs.Phases.{Sorted, held_loose, sorted_none, sorted_others, sorted_placed, confined_zero, confined_more, never_refused, first_of}
+use Rattle.matchings.proofs.Places.{sealed_none}
+use Rattle.matchings.proofs.Shortcuts.{stays_least, has_least_loose, split_nothing}
 use Rattle.matching.specs.WorkLists.{Room}
 use Rattle.matching.proofs.Rooms.{room_two, room_after}
 use Rattle.matching.proofs.search.refine.Goals as goal
@@ -39,6 +41,22 @@ loop-left-preserved g c =
       )
       | in_default w ↦ absurd (never_refused _ _ _ _ _ _ _ c.loop-left.invariant.0 w.in_default.ensures.placed.0)
     ]
+
+pub loop-left-preserved-then-has_least : goal.loop-left-preserved-then-has_least
+loop-left-preserved-then-has_least g c =
+    let A = loose (g.R.Relation.allowed c.args.rel.now) (length c.args.mate.now) in
+    let n = length c.loop-left.mate in
+    let left = c.loop-left.left in
+    let mate = c.loop-left.mate in
+    let block = c.loop-left.block in
+    let least =
+    stays_least A n left block mate (omega arith) c.loop-left.invariant.0 c.loop-left.invariant.2
+    (has_least_loose (g.R.Relation.allowed c.args.rel.now) n (length c.args.mate.now) left block mate (omega arith) c.if-has_least.ensures) in (
+      sorted_placed A n left mate mate c.loop-left.invariant.0 least,
+      c.loop-left.invariant.1,
+      confined_more A n left mate mate block block [] 0 0 c.loop-left.invariant.0.held.inj c.loop-left.invariant.2 least (sealed_none A n left mate []) (split_nothing [] 0 block),
+      c.loop-left.invariant.3,
+    )
 
 pub returns : goal.returns
 returns g c = record {

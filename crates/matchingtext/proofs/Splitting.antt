@@ -1,0 +1,157 @@
+-- Classes of columns, split row by row.
+use Rattle.std.proofs.Common.{◌≡◌, ℕ, ◌+◌, ◌<◌, ◌≤◌, Bool, true, false, not, ◌≢◌, ◌⊎◌, List, ◌++◌, length, take, set, sym, refl, ap, ◌∙◌, subst, inl, inr, ⊎_elim, true≢false, arith, take_all, get_or-set_other, get_or-set_same}
+use mathlib.Core.Bool.{beq}
+use lib.Seq.{take-append-le}
+use Rattle.std.proofs.lemmas.Bool.{cases_eq}
+use Rattle.std.proofs.Math.Bool.{Bool-set}
+use Rattle.std.proofs.Math.Logic.{∥∥₁_elim}
+use Rattle.matchings.specs.Matchings.{◌!◌}
+use Rattle.matchings.specs.Reaching.{IsClass}
+use Rattle.matchingtext.specs.Sheets.{allowed_by}
+use Rattle.matchingtext.specs.Classes.{Filled, SplitBy, AlikeColumns}
+
+-- the twin t of a class k, if there is one: it was of class k, and differs from k in this row
+abbrev pub Twin : (ℕ → Bool) → ℕ → List ℕ → ℕ → ℕ → Type 0
+Twin ones n old k t = (t ≡ n) ⊎ ((t < n) × (old ! t ≡ k) × (ones t ≡ not (ones k)))
+
+-- what column c has come to, in this row
+pub record Sorted (ones : ℕ → Bool) (n : ℕ) (old : List ℕ) (c now : ℕ) : Type 0 where
+  pub below : now < n
+  pub agrees : ones c ≡ ones now
+  pub kin : (now ≡ old ! c) ⊎ (old ! now ≡ old ! c)
+
+-- the first c columns are sorted, the others as they were
+pub record Splitting (ones : ℕ → Bool) (n : ℕ) (old new twins : List ℕ) (c : ℕ) : Type 0 where
+  pub sorted : (j : ℕ) → j < c → Sorted ones n old j (new ! j)
+  pub rest : (j : ℕ) → c ≤ j → new ! j ≡ old ! j
+  pub twin : (k : ℕ) → k < n → Twin ones n old k (twins ! k)
+
+pub splitting_none : (ones : ℕ → Bool) (n : ℕ) (old twins : List ℕ) → Filled n n twins → Splitting ones n old old twins 0
+splitting_none ones n old twins fresh =
+    record { sorted = λ j h. absurd (omega arith); rest = λ j h. refl; twin = λ k h. inl (fresh k h) }
+
+module _ (ones : ℕ → Bool) (n : ℕ) (old new twins : List ℕ) (c : ℕ) (s : Splitting ones n old new twins c) (lc : c < n) (long : length new ≡ n) where
+  -- column c agrees with its class, and keeps it
+  pub splitting_keeps : old ! c < n → ones c ≡ ones (new ! c) → Splitting ones n old new twins (c + 1)
+  splitting_keeps lk same = record {
+    sorted = λ j h. ⊎_elim
+        (λ e. subst (λ (x : ℕ). Sorted ones n old x (new ! x)) (sym e)
+        (record { below = let z = s.rest c (omega arith) in omega arith; agrees = same; kin = inl (s.rest c (omega arith)) }))
+        (λ d. s.sorted j (omega arith)) (cases_eq j c);
+    rest = λ j h. s.rest j (omega arith);
+    twin = s.twin;
+  }
+
+  -- column c goes to t, with other twins
+  module _ (t : ℕ) (twins' : List ℕ) (to : Sorted ones n old c t) (others : (k : ℕ) → k < n → Twin ones n old k (twins' ! k)) where
+    same_other : (j : ℕ) → j ≢ c → set new c t ! j ≡ new ! j
+    same_other j d = get_or-set_other new c j t 0 d
+
+    pub splitting_moves : Splitting ones n old (set new c t) twins' (c + 1)
+    splitting_moves = record {
+      sorted = λ j h. ⊎_elim
+          (λ e. subst (λ (x : ℕ). Sorted ones n old x (set new c t ! x)) (sym e)
+          (subst (λ (x : ℕ). Sorted ones n old c x) (sym (get_or-set_same new c t 0 (omega arith))) to))
+          (λ d. subst (λ (x : ℕ). Sorted ones n old j x) (sym (same_other j d)) (s.sorted j (omega arith))) (cases_eq j c);
+      rest = λ j h. same_other j (omega arith) ∙ s.rest j (omega arith);
+      twin = others;
+    }
+
+pub differ : (a b : Bool) → not (beq a b) ≡ true → a ≡ b → ⊥
+differ true true h e = true≢false (sym h)
+differ true false h e = true≢false e
+differ false true h e = true≢false (sym e)
+differ false false h e = true≢false (sym h)
+
+pub agree : (a b : Bool) → not (beq a b) ≡ false → a ≡ b
+agree true true h = refl
+agree true false h = h
+agree false true h = sym h
+agree false false h = refl
+
+not_same : (a b : Bool) → (a ≡ b → ⊥) → a ≡ not b
+not_same true true d = absurd (d refl)
+not_same true false d = refl
+not_same false true d = refl
+not_same false false d = absurd (d refl)
+
+module _ (ones : ℕ → Bool) (n : ℕ) (old new twins : List ℕ) (c class : ℕ) (s : Splitting ones n old new twins c) (lc : c < n) (long : length new ≡ n)
+    (is : class ≡ new ! c) (lk : old ! c < n) where
+  was : class ≡ old ! c
+  was = is ∙ s.rest c (omega arith)
+
+  pub class_below : class < n
+  class_below = let z = was in omega arith
+
+  pub split_keeps : ones c ≡ ones class → Splitting ones n old new twins (c + 1)
+  split_keeps e = splitting_keeps ones n old new twins c s lc long lk (e ∙ ap ones is)
+
+  -- the first that differs from its class is the twin
+  pub split_first : length twins ≡ n → (ones c ≡ ones class → ⊥) → twins ! class ≡ n
+      → Splitting ones n old (set new c (set twins class c ! class)) (set twins class c) (c + 1)
+  split_first wide d none =
+      let it : set twins class c ! class ≡ c = get_or-set_same twins class c 0 (let z = class_below in omega arith) in
+      subst (λ (x : ℕ). Splitting ones n old (set new c x) (set twins class c) (c + 1)) (sym it)
+      (splitting_moves ones n old new twins c s lc long c (set twins class c)
+      (record { below = lc; agrees = refl; kin = inr refl })
+      (λ k h. ⊎_elim
+      (λ e. subst (λ (x : ℕ). Twin ones n old k (set twins class c ! x)) (sym e)
+      (subst (λ (x : ℕ). Twin ones n old k x) (sym it) (inr (lc, sym was ∙ sym e, not_same (ones c) (ones k) (λ q. d (q ∙ ap ones e))))))
+      (λ o. subst (λ (x : ℕ). Twin ones n old k x) (sym (get_or-set_other twins class k c 0 o)) (s.twin k h)) (cases_eq k class)))
+
+  -- the others go to the twin
+  pub split_next : (ones c ≡ ones class → ⊥) → (twins ! class ≡ n → ⊥) → Splitting ones n old (set new c (twins ! class)) twins (c + 1)
+  split_next d some =
+      ⊎_elim (λ e. absurd (some e))
+      (λ f. splitting_moves ones n old new twins c s lc long (twins ! class) twins
+      (record {
+        below = f.0;
+        agrees = not_same (ones c) (ones class) d ∙ sym f.2;
+        kin = inr (f.1 ∙ was);
+      })
+      s.twin)
+      (s.twin class class_below)
+
+pub split_all : (ones : ℕ → Bool) (n : ℕ) (old new twins : List ℕ) (c : ℕ) → n ≤ c → Splitting ones n old new twins c → SplitBy ones n old new
+split_all ones n old new twins c all s = record {
+  below = λ j h. (s.sorted j (omega arith)).below;
+  agrees = λ j h. (s.sorted j (omega arith)).agrees;
+  kin = λ j h. (s.sorted j (omega arith)).kin;
+}
+
+-- each column is the same as its class in the first `row` rows
+pub record Alike (rows : List ℕ) (n row : ℕ) (classes : List ℕ) : Type 0 where
+  pub below : (c : ℕ) → c < n → classes ! c < n
+  pub same : (l c : ℕ) → l < row → c < n → allowed_by rows n l c ≡ allowed_by rows n l (classes ! c)
+
+pub alike_none : (rows : List ℕ) (n : ℕ) (classes : List ℕ) → Filled 0 n classes → Alike rows n 0 classes
+alike_none rows n classes zero = record { below = λ c h. let z = zero c h in omega arith; same = λ l c h. absurd (omega arith) }
+
+pub alike_more :
+    (rows : List ℕ) (n row : ℕ) (ones : ℕ → Bool) (old new : List ℕ)
+    → Alike rows n row old
+    → ((c : ℕ) → c < n → ones c ≡ allowed_by rows n row c)
+    → SplitBy ones n old new
+    → Alike rows n (row + 1) new
+alike_more rows n row ones old new a is s = record {
+  below = s.below;
+  same = λ l c ll lc. ⊎_elim
+      (λ e. subst (λ (x : ℕ). allowed_by rows n x c ≡ allowed_by rows n x (new ! c)) (sym e) (sym (is c lc) ∙ s.agrees c lc ∙ is (new ! c) (s.below c lc)))
+      (λ d. ⊎_elim
+      (λ kept. a.same l c (omega arith) lc ∙ ap (λ (x : ℕ). allowed_by rows n l x) (sym kept))
+      (λ kin. a.same l c (omega arith) lc ∙ ap (λ (x : ℕ). allowed_by rows n l x) (sym kin) ∙ sym (a.same l (new ! c) (omega arith) (s.below c lc)))
+      (s.kin c lc)) (cases_eq l row);
+}
+
+-- a list as long as the front that is kept is that front
+pub front : (n : ℕ) (a b : List ℕ) → length a ≡ n → take n (a ++ b) ≡ a
+front n a b e = take-append-le n a b (omega arith) ∙ take_all n a (omega arith)
+
+-- columns of one class are the same
+pub column_class : (rows : List ℕ) (n : ℕ) (classes : List ℕ) (right : ℕ) → right < n → ∥ AlikeColumns rows n classes ∥₁
+    → IsClass (allowed_by rows n) n (λ r. classes ! r) right (classes ! right)
+column_class rows n classes right lr same = (
+  refl,
+  λ l s ll ls e. ∥∥₁_elim same (Bool-set (allowed_by rows n l s) (allowed_by rows n l right))
+      (λ h. h l s ll ls ∙ ap (λ (x : ℕ). allowed_by rows n l x) e ∙ sym (h l right ll lr)),
+)

@@ -1,0 +1,36 @@
+use Rattle.std.proofs.Common.{length, sym, refl, ◌∙◌, arith}
+use Rattle.matchings.specs.Matchings.{◌!◌}
+use Rattle.matchingtext.specs.Classes.{one}
+use Rattle.matchingtext.proofs.Splitting.{splitting_none, split_keeps, split_first, split_next, split_all, differ, agree}
+use Rattle.matchingtext.proofs.classes.split_by.Goals as goal
+use Rattle.matchingtext.proofs.classes.split_by.Goals.{then-is_one, then-twins-class, else-twins-class, else-is_one}
+
+pub loop-c-init : goal.loop-c-init
+loop-c-init c = splitting_none _ _ _ _ c.requires.fresh
+
+pub loop-c-preserved : goal.loop-c-preserved
+loop-c-preserved c =
+    let row = c.args.row.now in
+    let i = c.loop-c.c in
+    let class = c.loop-c.classes ! i in
+    let below = c.requires.below i (omega arith) in
+    let here = c.is_one.ensures in
+    let there = c.is_one-in-loop-c.ensures in
+    elim c.if-is_one.branch [
+      | then-is_one w ↦ simp (w.classes-is, w.twins-is) (
+          elim w.if-twins-class.branch [
+            | then-twins-class v ↦ simp v.twins-is
+                (split_first (one row) (length row) c.args.classes.now c.loop-c.classes c.loop-c.twins i class c.loop-c.invariant (omega arith) (omega arith) refl below
+                (omega arith) (λ e. differ _ _ w.if-is_one.true (here ∙ e ∙ sym there)) v.if-twins-class.true)
+            | else-twins-class v ↦ simp v.twins-is
+                (split_next (one row) (length row) c.args.classes.now c.loop-c.classes c.loop-c.twins i class c.loop-c.invariant (omega arith) (omega arith) refl below
+                (λ e. differ _ _ w.if-is_one.true (here ∙ e ∙ sym there)) v.if-twins-class.false)
+          ]
+          )
+      | else-is_one w ↦ simp (w.classes-is, w.twins-is)
+          (split_keeps (one row) (length row) c.args.classes.now c.loop-c.classes c.loop-c.twins i class c.loop-c.invariant (omega arith) (omega arith) refl below
+          (sym here ∙ agree _ _ w.if-is_one.false ∙ there))
+    ]
+
+pub returns : goal.returns
+returns c = split_all _ _ _ _ _ _ (omega arith) c.loop-c.invariant

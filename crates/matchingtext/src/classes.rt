@@ -1,0 +1,102 @@
+ghost use Rattle.std.specs.Prelude.{◌≡◌, ℕ, ◌+◌, ◌*◌, ◌<◌, ◌≤◌, length, vec_items, vec_len, ◌==◌, IfOk};
+ghost use Rattle.matchings.specs.Matchings.{◌!◌};
+ghost use Rattle.matchingtext.specs.Sheets.{allowed_by};
+ghost use Rattle.matchingtext.specs.Classes.{Filled, one, SplitBy, AlikeColumns};
+
+use crate::table::TextTable;
+use matching::Relation;
+use std::alloc::{AllocError, Global};
+
+// The same number into each place.
+fn fill(table: &mut [usize], number: usize)
+    ensures { Filled number (length table.old) table.new }
+{
+    for k in 0..table.len() {
+        table[k] = number;
+    }
+}
+
+fn is_one(character: u8) -> bool
+    ensures { result ≡ (character == 49) }
+{
+    character == b'1'
+}
+
+// Splits the classes by one row: a column that differs there from the column that its class is named after moves to a new
+// class, named after the first that does. `twins` has these by the old class; its own length says that there is none yet.
+fn split_by(row: &[u8], classes: &mut [usize], twins: &mut [usize])
+    requires size { (length classes.old ≡ length row.now) × (length twins.old ≡ length row.now) }
+    requires below { (c : ℕ) → c < length row.now → classes.old ! c < length row.now }
+    requires fresh { Filled (length row.now) (length row.now) twins.old }
+    ensures { SplitBy (one row.now) (length row.now) classes.old classes.new }
+{
+    let none = row.len();
+    for c in 0..row.len() {
+        let class = classes[c];
+        if is_one(row[c]) != is_one(row[class]) {
+            if twins[class] == none {
+                twins[class] = c;
+            }
+            classes[c] = twins[class];
+        }
+    }
+}
+
+// Gives each column of a relation the number of a column that is the same in every row, its class.
+fn find_classes(rows: &[u8], count: usize, classes: &mut [usize], twins: &mut [usize])
+    requires rows { count * (count + 1) ≤ length rows.now }
+    requires size { (length classes.old ≡ count) × (length twins.old ≡ count) }
+    ensures { AlikeColumns rows.now count classes.new }
+{
+    fill(classes, 0);
+    for row in 0..count {
+        let from = row * (count + 1);
+        fill(twins, count);
+        split_by(&rows[from..from + count], classes, twins);
+    }
+}
+
+// The class of each column of a table.
+pub fn classes_of(heap: Global, table: &TextTable) -> Result<Vec<usize>, AllocError>
+    ensures { IfOk result (λ classes. (vec_len classes ≡ table.now.count) × AlikeColumns table.now.rows.now table.now.count (vec_items classes)) }
+{
+    let mut classes = vec![in heap; 0usize; table.count]?;
+    let mut twins = vec![in heap; 0usize; table.count]?;
+    find_classes(table.rows, table.count, &mut classes, &mut twins);
+    Ok(classes)
+}
+
+// A table with the classes of its columns: the same relation, and its search visits each class once.
+#[derive(Drop)]
+pub struct ClassedTable<'a> {
+    table: &'a TextTable<'a>,
+    classes: &'a [usize],
+    ghost many: { length classes.now ≡ table.now.count },
+    ghost columns: { ∥ AlikeColumns table.now.rows.now table.now.count classes.now ∥₁ },
+}
+
+impl<'a> ClassedTable<'a> {
+    pub fn new(table: &'a TextTable<'a>, classes: &'a [usize]) -> ClassedTable<'a>
+        requires many { length classes.now ≡ table.now.count }
+        requires columns { AlikeColumns table.now.rows.now table.now.count classes.now }
+        ensures { result.table.now ≡ table.now }
+    {
+        ClassedTable { table, classes }
+    }
+}
+
+impl Relation for ClassedTable<'_> {
+    ghost size = { λ t. t.table.now.count };
+
+    ghost allowed = { λ t l r. allowed_by t.table.now.rows.now t.table.now.count l r };
+
+    ghost classes = { λ t r. t.classes.now ! r };
+
+    fn allows(&self, left: usize, right: usize) -> bool {
+        self.table.allows(left, right)
+    }
+
+    fn class(&self, right: usize) -> Option<usize> {
+        Some(self.classes[right])
+    }
+}
