@@ -1,0 +1,6 @@
+pub mod Orders
+pub mod Scripts
+pub mod Theorems
+pub mod Lines
+pub mod Texts
+pub mod Writing
