@@ -1,27 +1,28 @@
 -- A floor over a new deck, before the order.
-use Rattle.std.proofs.Common.{◌≡◌, ℕ, ◌+◌, ◌*◌, ◌/◌, ◌%◌, List, replicate, sym, refl, ap, ◌∙◌, mod-lt, arith}
+use Rattle.std.proofs.Common.{◌≡◌, ℕ, ◌+◌, ◌*◌, ◌/◌, ◌%◌, List, sym, refl, mod-lt, arith}
 use native.Mathlib.Nat.{mod-add-div}
 use Rattle.grid.specs.Sides.{GoodSides, row_count}
 use Rattle.grid.specs.Slots.{numbered_slot}
 use Rattle.deck.specs.Decks.{DeckView, Sound}
 use Rattle.decklists.specs.New.{New}
-use Rattle.rules.specs.Rules.{RuleView}
 use Rattle.rules.specs.AnyRule.{any_meaning}
 use Rattle.rules.specs.declared.any.AnyRule.{AnyRule}
 use Rattle.rules.specs.declared.any.AnyRule.TheVariants.{Number, Kind}
-use Rattle.orderfile.specs.Records.{OrderView, GoodOrder}
+use Rattle.orderfile.specs.Records.{OrderView}
 use Rattle.orderfile.specs.Orders.{rule_lists}
 use Rattle.planning.proofs.Slots.{row_below}
 use Rattle.chain.specs.declared.fault.FloorFault.{FloorFault}
 use Rattle.chain.specs.Floors.{FloorView, Sized}
-use Rattle.chain.specs.Calls.{OnSlots, Opening, OpenRefused, OrderRefused}
+use Rattle.chain.specs.Calls.{OnSlots, Opening, OpenRefused}
 use Rattle.chain.specs.Faults.{floor_fault_number}
 use Rattle.chain.proofs.Fitting.{fits_opened}
 use Rattle.script.specs.Lines.{refused_line_bytes}
-use Rattle.scripting.specs.Orders.{lists_meaning, order_rule, order_slots}
+use Rattle.scripting.specs.Orders.{lists_meaning}
 use Rattle.scripting.specs.Scripts.{ScriptFor}
-use Rattle.scripting.specs.Writing.{AtHome}
-use Rattle.scripting.proofs.Plans.{only_unfillable}
+use Rattle.scripting.specs.Writing.{AtHome, Fresh}
+use Rattle.scripting.specs.declared.page.Page.{Page}
+use Rattle.scripting.specs.declared.page.Phase.TheVariants.{Ordering}
+use Rattle.scripting.proofs.Keeping.{AccountOf, of_phase}
 
 -- a rule means what its lists do
 pub means : (r : AnyRule) → any_meaning r ≡ lists_meaning (rule_lists r)
@@ -61,16 +62,10 @@ at_home o f v good sound new opening =
       home = new.on_slots;
     }
 
--- an order is refused only where it cannot be filled
-pub not_filled :
-    (o : OrderView) (f : FloorView) (v : DeckView) (r : RuleView) (marks : List ℕ) (fault : FloorFault) (text : List ℕ)
-    → GoodOrder o
+-- the account holds before the first call
+pub account_begins :
+    (s : Page) (o : OrderView) (f : FloorView) (v : DeckView)
+    → Fresh s o
     → AtHome o f v
-    → r ≡ order_rule o
-    → marks ≡ replicate (order_slots o) 0
-    → OrderRefused f v r marks fault
-    → text ≡ refused_line_bytes (floor_fault_number fault)
-    → ScriptFor o text
-not_filled o f v r marks fault text good home is clean refused e =
-    let u = only_unfillable o f v home marks clean good r is fault refused in
-    ScriptFor.unfillable u.1 (e ∙ ap (λ (x : FloorFault). refused_line_bytes (floor_fault_number x)) u.0)
+    → AccountOf s o f v 0
+account_begins s o f v F home = of_phase s o f v 0 Ordering F.phase F.holds (home, refl)

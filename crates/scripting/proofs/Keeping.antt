@@ -1,5 +1,5 @@
 -- The account of a writer is kept from call to call.
-use Rattle.std.proofs.Common.{◌≡◌, ℕ, suc, ◌+◌, ◌*◌, ◌<◌, ◌≤◌, true, List, [], ◌∷◌, ◌++◌, length, take, Ok, Err, vec_items, Result, sym, refl, ap, ◌∙◌, subst, append_assoc, append-nil, mul-le-mul_right, suc-mul, add-one, arith, length-append}
+use Rattle.std.proofs.Common.{◌≡◌, ℕ, suc, ◌+◌, ◌*◌, ◌<◌, ◌≤◌, true, List, [], ◌∷◌, ◌++◌, length, take, Ok, Err, vec_items, sym, refl, ap, ◌∙◌, subst, append_assoc, append-nil, mul-le-mul_right, suc-mul, zero-add, add-one, arith, length-append}
 use Rattle.std.proofs.lemmas.List.{length-take-le}
 use Rattle.deck.specs.Decks.{DeckView}
 use Rattle.rules.specs.Rules.{RuleView}
@@ -8,18 +8,20 @@ use Rattle.motion.specs.Carrying.{longest}
 use Rattle.orderfile.specs.Records.{OrderView, GoodOrder}
 use Rattle.chain.specs.declared.fault.FloorFault.{FloorFault}
 use Rattle.chain.specs.Floors.{FloorView, slots, with_done, Kept}
-use Rattle.chain.specs.Calls.{StepRefused, Stepped, Accepted}
+use Rattle.chain.specs.Calls.{StepRefused, Stepped, Ordered}
 use Rattle.chain.proofs.Fitting.{many}
 use Rattle.script.specs.Lines.{first_line_bytes}
+use Rattle.script.specs.Pasting.{Written}
 use Rattle.floor.specs.Lines.{letters, line_bytes, LineRefused, Lined}
-use Rattle.scripting.specs.Orders.{order_rule, order_slots}
+use Rattle.scripting.specs.Orders.{order_slots}
 use Rattle.scripting.specs.Scripts.{step_line, step_lines, plan_script}
-use Rattle.scripting.specs.Writing.{written, Blank, Headed, Holds, AtHome, Underway, InPhase}
+use Rattle.serve.specs.Choices.{Choice}
+use Rattle.scripting.specs.Writing.{written, Holds, AtHome, Underway, InPhase, page_chosen}
 use Rattle.scripting.specs.declared.page.Page.{Page}
 use Rattle.scripting.specs.declared.page.Phase.{Phase}
-use Rattle.scripting.specs.declared.page.Phase.TheVariants.{Writing, Stepping, Over}
+use Rattle.scripting.specs.declared.page.Phase.TheVariants.{Asked, Writing, Stepping, Over, Refused}
 use Rattle.scripting.proofs.Texts.{pasted_take, pasted_long, step_lines_long, first_line_short}
-use Rattle.scripting.proofs.Plans.{plan_of, short, stands}
+use Rattle.scripting.proofs.Plans.{only_unfillable, plan_of, short, stands}
 
 -- the account of an order, as it is kept between calls
 abbrev pub AccountOf : Page → OrderView → FloorView → DeckView → ℕ → Type 0
@@ -177,74 +179,110 @@ all_written s s' o f v n fault e e' tall wide used (LineRefused.no_room left few
     let r = has_room s o f v f.done a.0 b.0 left in
     absurd (omega arith)
 
--- An order is accepted, and the first line has room.
-pub first_has_room :
-    (o : OrderView) (f g : FloorView) (v : DeckView) (r : RuleView) (marks before : List ℕ) (n : ℕ)
-    → Kept g
-    → GoodOrder o
-    → AtHome o f v
-    → r ≡ order_rule o
-    → Blank before o.height o.width
-    → Accepted f v r marks n g
-    → length (first_line_bytes o.height o.width n) ≤ length before
-first_has_room o f g v r marks before n kept good home is room A =
-    let l = short o f v home r is marks n g kept A in
-    let e = A.answer in
-    let few = first_line_fits o n good (omega arith) in
-    omega arith
+-- An order was chosen, and is answered.
+module _ (s : Page) (o : OrderView) (f g : FloorView) (v : DeckView) (k : ℕ) (r : RuleView) (marks : List ℕ)
+    (a : AccountOf s o f v k) (chosen : page_chosen o s (Choice.order r marks)) where
+  asked : AtHome o f v × (k ≡ 0)
+  asked = in_phase s o f v k Asked chosen.0 a
 
--- The first line is written.
-pub begun :
-    (s : Page) (o : OrderView) (f g : FloorView) (v : DeckView) (r : RuleView) (marks before : List ℕ) (n : ℕ)
-    → Kept g
-    → GoodOrder o
-    → AtHome o f v
-    → r ≡ order_rule o
-    → Blank before o.height o.width
-    → Accepted f v r marks n g
-    → Headed s o.height o.width n before
-    → AccountOf s o g v 0
-begun s o f g v r marks before n kept good home is room A F =
-    let text : written s ≡ first_line_bytes o.height o.width g.length ++ step_lines g.plan g.done =
-    F.text
-    ∙ ap (first_line_bytes o.height o.width) (sym A.length)
-    ∙ sym (append-nil (first_line_bytes o.height o.width g.length))
-    ∙ ap (λ (x : List ℕ). first_line_bytes o.height o.width g.length ++ x) (sym (no_lines g.plan))
-    ∙ ap (λ (k : ℕ). first_line_bytes o.height o.width g.length ++ step_lines g.plan k) (sym A.done) in
-    of_phase s o g v 0 Writing F.phase
-    (record { good = good; height = F.height; width = F.width; room = F.long ∙ room }) (
-      record {
-        height = A.height ∙ home.height;
-        width = A.width ∙ home.width;
-        planned = plan_of o f v home r is marks n g kept A;
-        length_is = kept.length;
-        short = (let l = short o f v home r is marks n g kept A in let k = kept.length in omega arith);
-        stands = stands o f v home r is marks n g kept A;
-        ready = home.ready;
-        inside = F.inside;
-        text = text;
-      },
-      kept.within,
-      sym A.done,
-    )
+  same_line : (n : ℕ) → first_line_bytes s.sides.height s.sides.width n ≡ first_line_bytes o.height o.width n
+  same_line n =
+      ap (λ (h : ℕ). first_line_bytes h s.sides.width n) a.0.height ∙ ap (λ (w : ℕ). first_line_bytes o.height w n) a.0.width
+
+  -- It is accepted, and the first line written.
+  pub begun :
+      (s' : Page) (n count : ℕ)
+      → s'.phase ≡ Writing
+      → s'.sides.height ≡ s.sides.height
+      → s'.sides.width ≡ s.sides.width
+      → s'.used ≡ count
+      → Written (first_line_bytes s.sides.height s.sides.width n) (vec_items s.text) 0 (Ok count) (vec_items s'.text)
+      → Kept g
+      → Ordered f v r marks (Ok n) g
+      → AccountOf s' o g v (suc k)
+  begun s' n count e tall wide used P kept A =
+      let home = asked.0 in
+      let none = asked.1 in
+      let is = chosen.1 in
+      let line = first_line_bytes s.sides.height s.sides.width n in
+      let long = pasted_long line (vec_items s.text) (vec_items s'.text) 0 count P in
+      let text : written s' ≡ first_line_bytes o.height o.width g.length ++ step_lines g.plan g.done =
+      ap (λ (k : ℕ). take k (vec_items s'.text)) (used ∙ sym (zero-add count))
+      ∙ pasted_take line (vec_items s.text) (vec_items s'.text) 0 count P
+      ∙ same_line n
+      ∙ ap (first_line_bytes o.height o.width) (sym A.length)
+      ∙ sym (append-nil (first_line_bytes o.height o.width g.length))
+      ∙ ap (λ (x : List ℕ). first_line_bytes o.height o.width g.length ++ x) (sym (no_lines g.plan))
+      ∙ ap (λ (k : ℕ). first_line_bytes o.height o.width g.length ++ step_lines g.plan k) (sym A.done) in
+      of_phase s' o g v (suc k) Writing e (still_holds s s' o tall wide long a.0) (
+        record {
+          height = A.height ∙ home.height;
+          width = A.width ∙ home.width;
+          planned = plan_of o f v home r is marks n g kept A;
+          length_is = kept.length;
+          short = (let l = short o f v home r is marks n g kept A in let k = kept.length in omega arith);
+          stands = stands o f v home r is marks n g kept A;
+          ready = home.ready;
+          inside = (let c = P.room in omega arith);
+          text = text;
+        },
+        kept.within,
+        (let d = A.done in omega arith),
+      )
+
+  -- There is room for the first line.
+  pub first_has_room :
+      (after : List ℕ) (n : ℕ) (fault : FloorFault)
+      → Written (first_line_bytes s.sides.height s.sides.width n) (vec_items s.text) 0 (Err fault) after
+      → Kept g
+      → Ordered f v r marks (Ok n) g
+      → ⊥
+  first_has_room after n fault W kept A =
+      let l = short o f v asked.0 r chosen.1 marks n g kept A in
+      let e = A.answer in
+      let few = first_line_fits o n a.0.good (omega arith) in
+      let same = ap length (same_line n) in
+      let room = a.0.room in
+      let lack = W.1 in
+      omega arith
+
+  -- It is refused.
+  pub order_refused :
+      (s' : Page) (fault : FloorFault)
+      → s'.phase ≡ Refused fault
+      → s'.sides.height ≡ s.sides.height
+      → s'.sides.width ≡ s.sides.width
+      → vec_items s'.text ≡ vec_items s.text
+      → Ordered f v r marks (Err fault) g
+      → AccountOf s' o g v (suc k)
+  order_refused s' fault e tall wide text R =
+      let none = asked.1 in
+      let u = only_unfillable o f v asked.0 marks chosen.2 a.0.good r chosen.1 fault R.0 in
+      of_phase s' o g v (suc k) (Refused fault) e (still_holds s s' o tall wide (ap length text) a.0) (u.0, u.1, omega arith)
 
 -- A step that is left is not refused.
-never_refused :
-    (s : Page) (o : OrderView) (f g : FloorView) (v w : DeckView) (t : ℕ) (fault : FloorFault)
-    → Underway s o f v t
-    → f.done < f.length
+pub never_refused :
+    (s : Page) (o : OrderView) (f g : FloorView) (v w : DeckView) (k : ℕ) (fault : FloorFault)
+    → s.phase ≡ Stepping
+    → AccountOf s o f v k
     → Stepped f v (Err fault) g w
     → ⊥
-never_refused s o f g v w t fault U left (StepRefused.no_next_move none u, same) = omega arith
-never_refused s o f g v w t fault U left (StepRefused.astray l astray u, same) = astray U.stands
-never_refused s o f g v w t fault U left (StepRefused.go_refused l st idle h, same) =
-    let r = U.ready in
+never_refused s o f g v w k fault e a (StepRefused.no_next_move none u, same) =
+    let b = in_phase s o f v k Stepping e a in
+    let l = b.1 in
+    omega arith
+never_refused s o f g v w k fault e a (StepRefused.astray l astray u, same) =
+    let b = in_phase s o f v k Stepping e a in
+    astray b.0.stands
+never_refused s o f g v w k fault e a (StepRefused.go_refused l st idle h, same) =
+    let b = in_phase s o f v k Stepping e a in
+    let r = b.0.ready in
     let z : ◌≡◌ {A = ℕ} 0 1 = cc in
     omega arith
 
 -- A step is made, and leaves a deck that is always ready so.
 pub step_made :
-    (s s' : Page) (o : OrderView) (f g : FloorView) (v w : DeckView) (k : ℕ) (answer : Result ℕ FloorFault)
+    (s s' : Page) (o : OrderView) (f g : FloorView) (v w : DeckView) (k n : ℕ)
     → s.phase ≡ Stepping
     → s'.phase ≡ Writing
     → s'.sides.height ≡ s.sides.height
@@ -253,12 +291,9 @@ pub step_made :
     → vec_items s'.text ≡ vec_items s.text
     → w.ready ≡ true
     → AccountOf s o f v k
-    → Stepped f v answer g w
+    → Stepped f v (Ok n) g w
     → AccountOf s' o g w (suc k)
-step_made s s' o f g v w k (Err fault) e e' tall wide used text ready a stepped =
-    let b = in_phase s o f v k Stepping e a in
-    absurd (never_refused s o f g v w (f.done + 1) fault b.0 b.1 stepped)
-step_made s s' o f g v w k (Ok n) e e' tall wide used text ready a (left, count, M) =
+step_made s s' o f g v w k n e e' tall wide used text ready a (left, count, M) =
     let b = in_phase s o f v k Stepping e a in
     let U = b.0 in
     let is : g ≡ with_done f (f.done + 1) = M.recorded ∙ ap (with_done f) count in

@@ -2,8 +2,7 @@
 //
 // For: the programs, which only read and write. Promises: `Script::of_record` answers what ScriptOf of specs/Scripts.antt
 // says, which fixes every byte; a refusal is a script too, and needs no memory. Rests on: orderfile, which reads the record;
-// floor, which plans it over a new roster; serve, which plays the steps that the writer chooses; script and floor, which write
-// lines.
+// serve, which plays the calls that the writer chooses on a floor over a new roster; script and floor, which write lines.
 #![tactic(auto)]
 
 mod page;

@@ -8,7 +8,7 @@ ghost use Rattle.scripting.specs.Theorems.{ScriptIsFixed};
 ghost use Rattle.scripting.specs.Texts.{script_text};
 ghost use Rattle.scripting.specs.Writing.{page_account};
 
-use crate::page::{Page, blank};
+use crate::page::{Page, Phase};
 use crate::refused_line::RefusedLine;
 use crate::writer::{ScriptWriter, Task};
 use chain::fault::FloorFault;
@@ -19,7 +19,7 @@ use orderfile::read::read;
 use roster::Roster;
 use serve::serve;
 use std::alloc::Global;
-use std::marker::{Brand, PhantomData};
+use std::marker::Brand;
 
 // A script: the first line and the lines of the steps, or the line of a refusal.
 #[derive(Drop)]
@@ -45,43 +45,44 @@ impl Script {
         requires order { order-shown order ≡ K.order }
         ensures { ScriptFor K.order (script_text result) }
     {
-        let Order { sides, rule } = order;
-        let Ok(text) = blank(heap, sides) else {
-            return Script::Refused(RefusedLine::new(FloorFault::NoMemory.number()));
-        };
-        let Ok(mut marks) = vec![in heap; 0u8; sides.slots()] else {
+        let sides = order.sides;
+        let Ok(writer) = ScriptWriter::<K>::new(heap, order) else {
             return Script::Refused(RefusedLine::new(FloorFault::NoMemory.number()));
         };
         let deck = match Roster::upright(heap, sides.height, sides.width) {
             Ok(deck) => deck,
             Err(fault) => return Script::Refused(RefusedLine::new(fault.number())),
         };
-        let mut floor = match Floor::open(heap, &deck, sides.height, sides.width) {
+        let floor = match Floor::open(heap, &deck, sides.height, sides.width) {
             Ok(floor) => floor,
             Err(fault) => return Script::Refused(RefusedLine::new(fault.number())),
         };
-        let steps = match floor.order(&deck, &rule, &mut marks) {
-            Ok(steps) => steps,
-            Err(fault) => return Script::Refused(RefusedLine::new(fault.number())),
-        };
-        Script::played::<K>(Page::new(text, sides, steps), floor, deck)
+        Script::played::<K>(writer, floor, deck)
     }
 
-    // Plays the writer's steps to the end.
-    fn played<K: Task>(page: Page, mut floor: Floor, mut deck: Roster) -> Script
-        requires { page_account K.order page (floor-shown floor) (roster_view deck) [] }
+    // Plays the writer's calls to the end.
+    fn played<K: Task>(mut writer: ScriptWriter<K>, mut floor: Floor, mut deck: Roster) -> Script
+        requires { page_account K.order writer.page (floor-shown floor) (roster_view deck) [] }
         ensures { ScriptFor K.order (script_text result) }
     {
-        // a step for each move of the plan, and the end
-        let budget = longest_plan(page.sides) + 1;
-        let mut writer = ScriptWriter::<K> {
-            page,
-            of: PhantomData,
-        };
+        // the order, a step for each move of the plan, and the end
+        let budget = longest_plan(writer.page.sides) + 2;
         let _ = serve(&mut floor, &mut deck, &mut writer, budget);
-        let Page { mut text, used, .. } = writer.page;
-        text.truncate(used);
-        Script::Steps(text)
+        let Page {
+            phase,
+            mut text,
+            used,
+            ..
+        } = writer.page;
+        match phase {
+            Phase::Over => {
+                text.truncate(used);
+                Script::Steps(text)
+            }
+            Phase::Refused(fault) => Script::Refused(RefusedLine::new(fault.number())),
+            // The order's answer was not told. It always is, but what serve promises leaves that open.
+            _ => Script::Refused(RefusedLine::new(FloorFault::NoMemory.number())),
+        }
     }
 
     pub fn bytes(&self) -> &[u8]

@@ -1,16 +1,24 @@
-// Whoever writes a script: it steps to the end, and writes each step as a line before it is made.
-ghost use Rattle.orderfile.specs.Records.{OrderView};
-ghost use Rattle.floor.specs.Shown.{shown as floor-shown};
-ghost use Rattle.floor.specs.Lines.{Lined};
-ghost use Rattle.scripting.specs.Writing.{page_account, page_chosen, Closed};
+// Whoever writes a script: it makes the order, and then steps to the end.
+ghost use Rattle.std.specs.Prelude.{◌≡◌, IfOk};
+ghost use Rattle.std.specs.Option.{ForSome};
+ghost use Rattle.orderfile.specs.Records.{OrderView, GoodOrder};
+ghost use Rattle.orderfile.specs.Orders.{shown as order-shown};
+ghost use Rattle.scripting.specs.Asking.{Asks};
+ghost use Rattle.scripting.specs.Writing.{Fresh, page_account, page_chosen, Closed};
 
-use crate::page::{Page, Phase};
+use crate::page::{Page, Phase, write_first_line, write_step};
 use chain::fault::FloorFault;
 use floor::record::Floor;
+use motion::longest_plan;
+use orderfile::order::Order;
 use roster::Roster;
 use rules::any::AnyRule;
 use serve::{Call, Source};
+use std::alloc::{AllocError, Global};
 use std::marker::{Brand, PhantomData};
+
+// Room for a first line.
+const FIRST_LINE: usize = 80;
 
 // The order whose script is written. Each call picks it.
 pub(crate) trait Task {
@@ -24,27 +32,63 @@ impl Task for Brand {
     ghost order = { record { height = 1; width = 1; lists = numbers [] } };
 }
 
+// An order that is yet to be made.
 #[derive(Drop)]
-pub(crate) struct ScriptWriter<K: Task> {
-    pub(crate) page: Page,
-    pub(crate) of: PhantomData<K>,
+pub(crate) struct Pending {
+    rule: AnyRule,
+    marks: Vec<u8>,
 }
 
-fn write_step(floor: &Floor, text: &mut Vec<u8>, at: usize) -> Result<usize, FloorFault>
-    ensures { Lined (floor-shown floor.now) text.old.items at result text.new.items }
-{
-    floor.line(text, at)
+// Orders once and then steps to the end, and writes each step as a line before it is made.
+#[derive(Drop)]
+pub(crate) struct ScriptWriter<K: Task> {
+    pending: Option<Pending>,
+    pub(crate) page: Page,
+    of: PhantomData<K>,
+    ghost asks: { ForSome pending (λ p. Asks K.order p) },
+}
+
+impl<K: Task> ScriptWriter<K> {
+    // With room for the longest script that an order for these sides can have.
+    pub(crate) fn new(heap: Global, order: Order) -> Result<ScriptWriter<K>, AllocError>
+        requires good { GoodOrder K.order }
+        requires order { order-shown order ≡ K.order }
+        ensures { IfOk result (λ w. Fresh w.page K.order) }
+    {
+        let Order { sides, rule } = order;
+        let marks = vec![in heap; 0u8; sides.slots()]?;
+        let room = longest_plan(sides) * (sides.slots() + 1) + FIRST_LINE;
+        let text = vec![in heap; 0u8; room]?;
+        Ok(ScriptWriter {
+            pending: Some(Pending { rule, marks }),
+            page: Page {
+                sides,
+                phase: Phase::Ordering,
+                text,
+                used: 0,
+            },
+            of: PhantomData,
+        })
+    }
 }
 
 impl<K: Task> Source<Roster> for ScriptWriter<K> {
     ghost account = { λ w f v es. page_account K.order w.page f v es };
 
-    ghost chosen = { λ w choice. page_chosen w.page choice };
+    ghost chosen = { λ w choice. page_chosen K.order w.page choice };
 
     ghost over = { λ w. Closed w.page.phase };
 
     fn next(&mut self, floor: &Floor, _deck: &mut Roster) -> Call {
         match self.page.phase {
+            Phase::Ordering => {
+                let pending = self.pending.take();
+                self.page.phase = Phase::Asked;
+                match pending {
+                    Some(Pending { rule, marks }) => Call::Order(rule, marks),
+                    None => Call::Stop,
+                }
+            }
             Phase::Writing => match write_step(floor, &mut self.page.text, self.page.used) {
                 Ok(count) => {
                     self.page.used += count;
@@ -56,27 +100,42 @@ impl<K: Task> Source<Roster> for ScriptWriter<K> {
                     Call::Stop
                 }
             },
-            // the step is yet to be answered
+            // its line is written
             Phase::Stepping => Call::Step,
-            Phase::Over => Call::Stop,
+            Phase::Asked | Phase::Over | Phase::Refused(_) => Call::Stop,
         }
     }
 
-    // It makes no order.
     fn ordered(
         &mut self,
         _floor: &Floor,
         _deck: &Roster,
         _rule: &AnyRule,
         _marks: &[u8],
-        _answer: Result<usize, FloorFault>,
-    ) {}
-
-    // A step whose line could be written is never refused.
-    fn stepped(&mut self, _floor: &Floor, _deck: &Roster, _answer: Result<usize, FloorFault>) {
-        self.page.phase = Phase::Writing;
+        answer: Result<usize, FloorFault>,
+    ) {
+        match answer {
+            Ok(steps) => match write_first_line(&mut self.page.text, self.page.sides, steps) {
+                Ok(count) => {
+                    self.page.used = count;
+                    self.page.phase = Phase::Writing;
+                }
+                Err(fault) => self.page.phase = Phase::Refused(fault),
+            },
+            Err(fault) => self.page.phase = Phase::Refused(fault),
+        }
     }
 
-    // It never steps back.
-    fn backed(&mut self, _floor: &Floor, _deck: &Roster, _answer: Result<usize, FloorFault>) {}
+    fn stepped(&mut self, _floor: &Floor, _deck: &Roster, answer: Result<usize, FloorFault>) {
+        match answer {
+            Ok(_) => self.page.phase = Phase::Writing,
+            Err(fault) => self.page.phase = Phase::Refused(fault),
+        }
+    }
+
+    fn backed(&mut self, _floor: &Floor, _deck: &Roster, answer: Result<usize, FloorFault>) {
+        if let Err(fault) = answer {
+            self.page.phase = Phase::Refused(fault);
+        }
+    }
 }

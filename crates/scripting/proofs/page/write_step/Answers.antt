@@ -2,7 +2,7 @@ use Rattle.std.proofs.Common.{ℕ, List, vec_items, sym, subst}
 use Rattle.floor.specs.Lines.{Lined}
 use Rattle.floor.specs.Shown.{shown}
 use Rattle.scripting.proofs.Texts.{came_back}
-use Rattle.scripting.proofs.writer.write_step.Goals as goal
+use Rattle.scripting.proofs.page.write_step.Goals as goal
 
 pub returns : goal.returns
 returns c =
