@@ -1,14 +1,20 @@
 -- The trials, one by one.
-use Rattle.std.proofs.Common.{ℕ, List, [], ◌∷◌, refl}
+use Rattle.std.proofs.Common.{ℕ, List, [], ◌∷◌, Ok, refl, ap, arith}
+use Rattle.std.specs.Fmt.{digits}
 use Rattle.deck.specs.declared.fault.DeckFault.TheVariants.{OffFloor, SharedSquare, Exchange}
 use Rattle.rules.specs.NumberRule.{wanting}
+use Rattle.matchings.specs.Matchings.{◌!◌}
 use Rattle.motion.specs.Plans.{greatest, whole}
 use Rattle.planning.specs.Planned.{Planned}
-use Rattle.trials.specs.NewFloors.{new_place}
+use Rattle.orderfile.specs.Records.{numbers, OrderView, Read}
+use Rattle.scripting.specs.Orders.{new_place}
+use Rattle.scripting.specs.Scripts.{step_lines}
 use Rattle.trials.specs.Trials.{Trials}
 use Rattle.trials.proofs.OneCell.{only_ok, only_err, following, exchange, shared, off_floor}
+use Rattle.trials.proofs.Checks.{lt?, all?}
 use Rattle.trials.proofs.Matchings.{first?, blocked?}
 use Rattle.trials.proofs.NewFloors.{plan_of, planned?, lasts, writes, only}
+use Rattle.trials.proofs.Records.{only_script}
 
 -- matchings of one bay, and of two
 
@@ -50,8 +56,24 @@ across =
     (planned? 1 2 (2 ∷ 0 ∷ 0 ∷ 2 ∷ 1 ∷ 1 ∷ []) (3 ∷ 1 ∷ 2 ∷ 0 ∷ 4 ∷ 5 ∷ []) _ (3 ∷ 1 ∷ 2 ∷ 0 ∷ 4 ∷ 5 ∷ [])
     (straight ∷ straight ∷ crossed ∷ [])).right refl
 
+-- The record.
+
+abbrev one_cell_order : OrderView
+one_cell_order = record { height = 1; width = 1; lists = numbers (2 ∷ 1 ∷ 0 ∷ []) }
+
+one_cell_record : Read (76 ∷ 70 ∷ 79 ∷ 0 ∷ 1 ∷ 0 ∷ 1 ∷ 0 ∷ 2 ∷ 0 ∷ 1 ∷ 0 ∷ 0 ∷ []) (Ok one_cell_order)
+one_cell_record = (
+  record {
+    sides = ((omega arith, omega arith), (omega arith, omega arith));
+    sized = refl;
+    entries = (all? 3 (λ s. lt? ((2 ∷ 1 ∷ 0 ∷ []) ! s) 3)).right refl;
+    fits = (all? 3 (λ s. lt? ((2 ∷ 1 ∷ 0 ∷ []) ! s) 65536)).right refl;
+  },
+  refl,
+)
+
 pub trials : Trials
-unfolding greatest whole
+unfolding greatest whole step_lines digits
 trials = record {
   following_is_accepted = record { lawful = following; only_answer = only_ok _ refl following };
   exchange_is_refused = record { fits = exchange; only_answer = only_err _ Exchange exchange };
@@ -67,4 +89,5 @@ trials = record {
   the_first_of_two_matchings_is_assigned = only _ 3 (1 ∷ 0 ∷ 2 ∷ []) ((first? _ 3 (1 ∷ 0 ∷ 2 ∷ [])).right refl);
   a_slot_leaves_a_carrier_to_another = only _ 3 (1 ∷ 0 ∷ 2 ∷ []) ((first? _ 3 (1 ∷ 0 ∷ 2 ∷ [])).right refl);
   a_slot_that_admits_nobody_is_unfillable = (blocked? _ 3 (0 ∷ [])).right refl;
+  a_record_that_reverses_one_cell = only_script _ _ one_cell_order _ one_cell_record reversed refl (λ e. let z = ap (λ (t : List ℕ). t ! 0) e in omega arith);
 }

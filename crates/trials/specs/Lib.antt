@@ -1,3 +1,4 @@
 pub mod OneCell
 pub mod NewFloors
+pub mod Records
 pub mod Trials

@@ -1,17 +1,12 @@
 -- Orders on a new floor, where carrier s stands on slot s: what plan they have, if any.
 use Rattle.std.specs.Prelude.{◌≡◌, ℕ, List, [], ◌∷◌, map}
 use Rattle.std.specs.List.{range_with_len}
-use Rattle.grid.specs.declared.square.Square.{Square}
 use Rattle.grid.specs.Headings.{letter}
-use Rattle.grid.specs.Slots.{slot_square, numbered_slot}
 use Rattle.rules.specs.Rules.{RuleView}
 use Rattle.motion.specs.Plans.{Plan, first_columns_steps, turn_steps, rows_steps, turn_back_steps, last_columns_steps, plan_steps, whole}
 use Rattle.planning.specs.Assignments.{Assignment}
 use Rattle.planning.specs.Planned.{Planned}
-
--- where carrier c stands on a new floor of w bays
-abbrev pub new_place : ℕ → ℕ → Square
-new_place w c = slot_square (numbered_slot w c)
+use Rattle.scripting.specs.Orders.{new_place}
 
 -- how many steps each of the five stages has
 abbrev pub stage_steps : Plan → List ℕ

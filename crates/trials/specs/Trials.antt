@@ -7,6 +7,7 @@ use Rattle.rules.specs.KindRule.{masking}
 use Rattle.planning.specs.Assignments.{Blocked}
 use Rattle.trials.specs.OneCell.{steered, Accepted, Refused}
 use Rattle.trials.specs.NewFloors.{PlanLasts, PlanWrites, OnlyAssignment}
+use Rattle.trials.specs.Records.{lines, OnlyScript}
 
 pub record Trials : Type 0 where
   -- moves in one cell: a carrier may enter a square that another leaves in the same move
@@ -29,3 +30,7 @@ pub record Trials : Type 0 where
   -- the first slot admits carrier 0 too, but the next admits nobody else
   pub a_slot_leaves_a_carrier_to_another : OnlyAssignment (masking (1 ∷ 2 ∷ 3 ∷ []) (6 ∷ 2 ∷ 14 ∷ [])) 3 (1 ∷ 0 ∷ 2 ∷ [])
   pub a_slot_that_admits_nobody_is_unfillable : Blocked (masking (1 ∷ 2 ∷ 3 ∷ []) (0 ∷ 14 ∷ 14 ∷ [])) 3
+  -- from the bytes of a record, by the definitions of records, plans and letters, to the lines of its script
+  pub a_record_that_reverses_one_cell :
+      OnlyScript (76 ∷ 70 ∷ 79 ∷ 0 ∷ 1 ∷ 0 ∷ 1 ∷ 0 ∷ 2 ∷ 0 ∷ 1 ∷ 0 ∷ 0 ∷ [])
+      (lines (codes "LFS 1 1 1 4" ∷ codes "R.L" ∷ codes "D.U" ∷ codes "D.U" ∷ codes "L.R" ∷ []))
