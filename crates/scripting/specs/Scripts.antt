@@ -40,7 +40,8 @@ pub data ScriptFor (o : OrderView) (text : List ℕ) : Type 0 where
   no_memory : text ≡ refused_line_bytes (floor_fault_number NoMemory) → ScriptFor o text
 
 -- The text is the script of these bytes: that of the order whose record they are, or the refusal that reading gives them.
--- Reading gives one answer, but that it asks for memory last, so the bytes fix every byte of the script where memory suffices.
+-- Reading gives one answer, but that it asks for memory last, so the bytes fix every byte of a script that does not tell of want of
+-- memory.
 pub data ScriptOf (bytes text : List ℕ) : Type 0 where
   ordered : (o : OrderView) → Read bytes (Ok o) → ScriptFor o text → ScriptOf bytes text
   refused :

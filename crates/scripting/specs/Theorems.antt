@@ -10,6 +10,6 @@ pub record InMemory (bytes text : List ℕ) : Type 0 where
   pub script : ScriptOf bytes text
   pub enough : text ≡ refused_line_bytes (floor_fault_number NoMemory) → ⊥
 
--- where memory suffices, two scripts of the same bytes are the same
+-- two scripts of the same bytes, neither of which tells of want of memory, are the same
 abbrev pub ScriptIsFixed : Type 0
 ScriptIsFixed = (bytes a b : List ℕ) → InMemory bytes a → InMemory bytes b → b ≡ a

@@ -52,7 +52,8 @@ pub record Underway (s : Page) (o : OrderView) (f : FloorView) (v : DeckView) (l
   pub inside : s.used ≤ length (vec_items s.text)
   pub text : written s ≡ first_line_bytes o.height o.width f.length ++ step_lines f.plan lines
 
--- Between calls. An event for the order, and one for each step, came before. The line of a step is written ahead of it.
+-- Between calls. Once the order is made, an event for it, and one for each step, came before. The line of a step is written ahead
+-- of it.
 abbrev pub InPhase : Page → OrderView → FloorView → DeckView → ℕ → Phase → Type 0
 InPhase s o f v events Ordering = AtHome o f v × (events ≡ 0)
 InPhase s o f v events Asked = AtHome o f v × (events ≡ 0)

@@ -14,7 +14,7 @@ use script::lines::first_line;
 pub(crate) enum Phase {
     // The order is yet to be made.
     Ordering,
-    // It is made, and its answer is yet to be told.
+    // It is handed out, and its answer is yet to be told.
     Asked,
     // The lines of the steps made are written.
     Writing,

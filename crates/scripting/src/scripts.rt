@@ -29,7 +29,7 @@ pub enum Script {
 }
 
 impl Script {
-    // The script of an order record, carried out over a new roster. Where memory suffices there is no other.
+    // The script of an order record, carried out over a new roster. There is no other, but `refused 47`.
     pub fn of_record(heap: Global, bytes: &[u8]) -> Script
         ensures script { ScriptOf bytes.now (script_text result) }
         ensures fixed { ScriptIsFixed }

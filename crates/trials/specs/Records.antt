@@ -7,7 +7,7 @@ abbrev pub lines : List (List ℕ) → List ℕ
 lines [] = []
 lines (l ∷ ls) = l ++ 10 ∷ lines ls
 
--- the script of these bytes is this text, and where memory suffices no other
+-- the script of these bytes is this text, and no other that does not tell of want of memory
 pub record OnlyScript (bytes text : List ℕ) : Type 0 where
   pub script : InMemory bytes text
   pub only : (other : List ℕ) → InMemory bytes other → other ≡ text
