@@ -99,7 +99,7 @@ fn find<R: Relation>(
     None
 }
 
-// Notes the class of a right member; whether it was not noted before. One that is not known, or past the end of the notes,
+// Notes the class of a right member. False only if it was noted before; one that is not known, or past the end of the notes,
 // always passes for new.
 fn is_new<R: Relation>(rel: &R, right: usize, seen: &mut [u8]) -> bool
     requires { right < R.Relation.size rel.now }

@@ -11,7 +11,7 @@ use crate::reaching::Quest;
 use crate::relation::Relation;
 use crate::work_list::WorkList;
 
-// The search tells this many classes of right members apart; all others are visited each time.
+// The search tells at most this many classes of right members apart; all others are visited each time.
 const NOTES: usize = 8192;
 
 // The first perfect matching is found; or so many members at the front of the work list block every one.
@@ -65,7 +65,8 @@ fn gather(work: &mut WorkList, reached: usize, count: usize) -> usize
     tail
 }
 
-// Gives `next` the least right member that it allows and that nobody before it has, in exchange for its own, if there is one.
+// Gives `next` a right member that it allows and that nobody before it has, in exchange for its own: the least, since that leaves
+// the second pass less to do. What is promised is only that true tells of such a gift; false lets the search proper look.
 fn take_free<R: Relation>(rel: &R, next: usize, mate: &mut [usize]) -> bool
     requires size { (length mate.old ≡ R.Relation.size rel.now) × (next < length mate.old) }
     requires held { Held (loose (R.Relation.allowed rel.now) next) (length mate.old) mate.old }
@@ -120,7 +121,8 @@ fn settle<R: Relation>(
     Matched::Found
 }
 
-// Whether no later member of the block of `left` has a lesser right member that `left` allows.
+// True only if no later member of the block of `left` has a lesser right member that `left` allows. False lets the search proper
+// look.
 fn has_least<R: Relation>(rel: &R, left: usize, mate: &[usize], block: &[usize]) -> bool
     requires size { (length mate.now ≡ R.Relation.size rel.now) × ((length block.now ≡ length mate.now) × (left < length mate.now)) }
     requires inj { Inj (length mate.now) (λ k. mate.now ! k) }

@@ -1,5 +1,5 @@
 -- What either rule means.
-use Rattle.std.specs.Prelude.{ℕ}
+use Rattle.std.specs.Prelude.{ℕ, Some, None, Option}
 use Rattle.rules.specs.Rules.{RuleView, Bounded}
 use Rattle.rules.specs.NumberRule.{number_meaning, number_bounded}
 use Rattle.rules.specs.KindRule.{kind_meaning, kind_bounded, kind_class}
@@ -18,3 +18,8 @@ any_bounded (Kind r) = kind_bounded r
 abbrev pub any_class : AnyRule → ℕ → ℕ
 any_class (Number r) carrier = carrier
 any_class (Kind r) carrier = kind_class r carrier
+
+-- the class that it tells of a carrier
+abbrev pub any_told : AnyRule → ℕ → Option ℕ
+any_told (Number r) carrier = None
+any_told (Kind r) carrier = Some (kind_class r carrier)

@@ -1,4 +1,6 @@
-ghost use Rattle.rules.specs.AnyRule.{any_meaning, any_bounded, any_class};
+ghost use Rattle.std.specs.Prelude.{◌≡◌, ℕ, MatchOption};
+ghost use Rattle.rules.specs.Rules.{IsClass};
+ghost use Rattle.rules.specs.AnyRule.{any_meaning, any_bounded, any_class, any_told};
 
 use crate::Rule;
 use crate::kind::KindRule;
@@ -39,9 +41,12 @@ impl Rule for AnyRule {
         }
     }
 
-    fn class(&self, carrier: usize) -> Option<usize> {
+    fn class(&self, carrier: usize) -> Option<usize>
+        ensures known { MatchOption result (Unit {0}) (λ c. IsClass (any_meaning self.now) (any_class self.now) carrier c) }
+        ensures told { result ≡ any_told self.now carrier }
+    {
         match self {
-            AnyRule::Number(rule) => rule.class(carrier),
+            AnyRule::Number(_) => None,
             AnyRule::Kind(rule) => rule.class(carrier),
         }
     }

@@ -1,5 +1,6 @@
-ghost use Rattle.std.specs.Prelude.{◌≡◌, ℕ, ◌<◌, length, vec_len, MatchBool};
+ghost use Rattle.std.specs.Prelude.{◌≡◌, ℕ, ◌<◌, length, vec_len, MatchBool, MatchOption};
 ghost use Rattle.rules.specs.Entries.{GoodKinds};
+ghost use Rattle.rules.specs.Rules.{IsClass};
 ghost use Rattle.rules.specs.KindRule.{KindMade, has_bit, kind_meaning, kind_bounded, kind_class};
 
 use crate::Rule;
@@ -74,7 +75,10 @@ impl Rule for KindRule {
         has_bit(self.masks[slot], self.kinds[carrier])
     }
 
-    fn class(&self, carrier: usize) -> Option<usize> {
+    fn class(&self, carrier: usize) -> Option<usize>
+        ensures known { MatchOption result (Unit {0}) (λ c. IsClass (kind_meaning self.now) (kind_class self.now) carrier c) }
+        ensures told { result ≡ Some (kind_class self.now carrier) }
+    {
         if carrier < self.kinds.len() {
             return Some(usize::from(self.kinds[carrier]));
         }
