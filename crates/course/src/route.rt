@@ -12,7 +12,7 @@ use grid::slot::Slot;
 use grid::square::Square;
 
 // A carrier's part of a plan. A plan is a slice of routes, one for each carrier.
-#[derive(Clone, Copy)]
+#[derive(Clone, Copy, Debug, PartialEq, Eq)]
 pub struct Route {
     pub start: Slot,
     pub middle_row: u8,
