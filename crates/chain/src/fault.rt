@@ -1,44 +1,50 @@
 ghost use Rattle.std.specs.Prelude.{◌≡◌};
 ghost use Rattle.chain.specs.Faults.{floor_fault_number};
+ghost use Rattle.chain.specs.declared.fault.FloorFault.TheVariants.{GoRefused, NoMemory};
+
+use deck::fault::DeckFault;
+use std::alloc::AllocError;
 
 // Why a call of the floor is refused.
-#[derive(Clone, Copy)]
+#[derive(Clone, Copy, PartialEq, Eq, Debug)]
 pub enum FloorFault {
-    BadSides,
-    WrongDeck,
-    OffSlot,
-    FewMarks,
-    DirtyMarks,
-    Unfinished,
-    Astray,
-    WrongRule,
-    Unfillable,
-    NoNextMove,
-    GoRefused,
-    NoLastMove,
-    NoRoom,
-    NoMemory,
+    BadSides = 1,
+    WrongDeck = 2,
+    OffSlot = 3,
+    FewMarks = 4,
+    DirtyMarks = 5,
+    Unfinished = 6,
+    Astray = 7,
+    WrongRule = 8,
+    Unfillable = 9,
+    NoNextMove = 10,
+    GoRefused = 11,
+    NoLastMove = 12,
+    NoRoom = 36,
+    NoMemory = 47,
 }
 
 impl FloorFault {
     pub fn number(self) -> u8
         ensures { result ≡ floor_fault_number self }
     {
-        match self {
-            FloorFault::BadSides => 1,
-            FloorFault::WrongDeck => 2,
-            FloorFault::OffSlot => 3,
-            FloorFault::FewMarks => 4,
-            FloorFault::DirtyMarks => 5,
-            FloorFault::Unfinished => 6,
-            FloorFault::Astray => 7,
-            FloorFault::WrongRule => 8,
-            FloorFault::Unfillable => 9,
-            FloorFault::NoNextMove => 10,
-            FloorFault::GoRefused => 11,
-            FloorFault::NoLastMove => 12,
-            FloorFault::NoRoom => 36,
-            FloorFault::NoMemory => 47,
-        }
+        self as u8
+    }
+}
+
+// Whatever a deck gives as its reason, the floor's is that it refused to go.
+impl From<DeckFault> for FloorFault {
+    ghost from_gives = { λ _ fault. fault ≡ GoRefused };
+
+    fn from(_refused: DeckFault) -> FloorFault {
+        FloorFault::GoRefused
+    }
+}
+
+impl From<AllocError> for FloorFault {
+    ghost from_gives = { λ _ fault. fault ≡ NoMemory };
+
+    fn from(_error: AllocError) -> FloorFault {
+        FloorFault::NoMemory
     }
 }

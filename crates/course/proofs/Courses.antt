@@ -1,13 +1,18 @@
 -- The stage that a plan stands in says where its carriers are and are headed; the lengths of the stages.
-use Rattle.std.proofs.Common.{◌≡◌, ℕ, ◌+◌, ◌<◌, max, sym, ap, ◌∙◌, add-one, arith}
+use Rattle.std.proofs.Common.{◌≡◌, ℕ, zero, suc, ◌+◌, ◌<◌, ◌≤◌, max, List, length, take, sym, ap, ◌∙◌, add-one, arith}
+use Rattle.std.proofs.lemmas.List.{take_all}
+use Rattle.std.proofs.lemmas.List.Sums.{fold_more}
 use Rattle.motion.specs.Plans.{Plan, greatest, first_columns, turning, rows, turning_back, last_columns, whole, plan_steps}
 use Rattle.motion.specs.Motions.{Motion, and_then}
 use Rattle.motion.proofs.Motions.{place_early, place_late, heading_early, heading_late}
-use Rattle.motion.proofs.Lengths.{greatest_more}
+use Rattle.motion.proofs.Lengths.{greatest_none, greatest_more}
 use Rattle.motion.proofs.Whole.{from_turn, from_rows, from_turn_back}
+use Rattle.course.specs.declared.route.Route.{Route}
 use Rattle.course.specs.declared.stage.Stage.{Stage}
 use Rattle.course.specs.declared.stage.Stage.TheVariants.{FirstColumns, Turn, Rows, TurnBack, LastColumns}
 use Rattle.course.specs.declared.stage.Stages.{Stages}
+use Rattle.course.specs.Routes.{nowhere, route_at}
+use Rattle.course.specs.Greatest.{greatest_of}
 use Rattle.course.specs.Stages.{motion_of, Alike, Staged, Standing}
 
 pub staged_steps :
@@ -17,14 +22,25 @@ pub staged_steps :
 unfolding whole
 staged_steps p s g = omega (arith, g.first_columns, g.turn, g.rows, g.turn_back, g.last_columns)
 
--- a loop's step towards the greatest of many: d is the next of them, and m is the greater
-pub greatest_next : (f : ℕ → ℕ) (n d g m : ℕ) → d ≡ f n → g ≡ greatest n f → m ≡ max d g → m ≡ greatest (n + 1) f
-greatest_next f n d g m a b e =
-    e
-    ∙ ap (λ (x : ℕ). max x g) a
-    ∙ ap (λ (x : ℕ). max (f n) x) b
-    ∙ sym (greatest_more n f)
-    ∙ ap (λ (x : ℕ). greatest x f) (sym (add-one n))
+-- the greatest of the first n carriers' answers is that of the first n routes
+greatest_first :
+    (answer : Route → ℕ) (routes : List Route) (n : ℕ)
+    → n ≤ length routes
+    → greatest_of answer (take n routes) ≡ greatest n (λ c. answer (route_at routes c))
+greatest_first answer routes zero h = sym (greatest_none _)
+greatest_first answer routes (suc n) h =
+    ap (λ (k : ℕ). greatest_of answer (take k routes)) (sym (add-one n))
+    ∙ fold_more (λ m r. max m (answer r)) 0 routes n nowhere (omega arith)
+    ∙ ap (λ (m : ℕ). max m (answer (route_at routes n))) (greatest_first answer routes n (omega arith))
+    ∙ (let e : max (greatest n (λ c. answer (route_at routes c))) (answer (route_at routes n)) ≡ max (answer (route_at routes n)) (greatest n (λ c. answer (route_at routes c))) = omega arith in e)
+    ∙ sym (greatest_more n _)
+
+pub greatest_listed :
+    (answer : Route → ℕ) (routes : List Route)
+    → greatest_of answer routes ≡ greatest (length routes) (λ c. answer (route_at routes c))
+greatest_listed answer routes =
+    ap (greatest_of answer) (sym (take_all (length routes) routes (omega arith)))
+    ∙ greatest_first answer routes (length routes) (omega arith)
 
 alike_early : (a b : Motion) (t : ℕ) → t < a.steps → Alike (and_then a b) t a t
 alike_early a b t h = record { place = λ c. place_early a b t c h; heading = λ c. heading_early a b t c h }

@@ -1,4 +1,4 @@
 pub mod Routes
 pub mod Stages
-pub mod Furthest
+pub mod Greatest
 pub mod Upright

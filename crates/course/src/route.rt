@@ -4,16 +4,15 @@ ghost use Rattle.motion.specs.Runs.{turn_heading};
 ghost use Rattle.motion.specs.Plans.{Plan, whole};
 ghost use Rattle.course.specs.Routes.{HasRoute};
 ghost use Rattle.course.specs.Stages.{motion_of, Staged};
-ghost use Rattle.course.specs.Upright.{run_from, run_to};
 
 use crate::run::{Run, turn_square};
-use crate::stage::{Stage, Stages};
+use crate::stage::{Moment, Stage, Stages};
 use grid::heading::Heading;
 use grid::slot::Slot;
 use grid::square::Square;
 
 // A carrier's part of a plan. A plan is a slice of routes, one for each carrier.
-#[derive(Clone, Copy)]
+#[derive(Clone, Copy, Debug, PartialEq, Eq)]
 pub struct Route {
     pub start: Slot,
     pub middle_row: u8,
@@ -21,34 +20,32 @@ pub struct Route {
 }
 
 impl Route {
-    // The carrier's heading in a stage, after `progress` steps of it.
-    pub fn heading(&self, stage: Stage, progress: usize) -> Heading
-        ensures { (p : Plan) (c : ℕ) → HasRoute p c self.now → result ≡ (motion_of stage p).heading progress c }
+    // The carrier's heading at a moment.
+    pub fn heading(&self, moment: Moment) -> Heading
+        ensures { (p : Plan) (c : ℕ) → HasRoute p c self.now → result ≡ (motion_of moment.stage p).heading moment.progress c }
     {
-        let run = self.run(stage);
-        let upright = match (stage, progress) {
-            (Stage::Turn | Stage::TurnBack, 0) => self.turns_aside(),
-            (Stage::Turn | Stage::TurnBack, _) => self.turns_in(),
-            (_, _) if run.is_still() => Heading::Stay,
-            (_, 0) => run.aside(),
-            (_, p) if p <= run.distance() => run.along(),
-            (_, p) if p == run.distance() + 1 => run.back(),
-            (_, _) => Heading::Stay,
+        let Moment { stage, progress } = moment;
+        let upright = match stage {
+            Stage::FirstColumns => self.first_columns().heading(progress),
+            Stage::Rows => self.rows().heading(progress),
+            Stage::LastColumns => self.last_columns().heading(progress),
+            Stage::Turn | Stage::TurnBack => self.turns(progress),
         };
         stage.on_deck(upright)
     }
 
-    // The heading that undoes the step which the carrier makes in a stage after `progress` steps of it.
-    pub fn heading_back(&self, stage: Stage, progress: usize) -> Heading
-        ensures { (p : Plan) (c : ℕ) → HasRoute p c self.now → result ≡ opposite ((motion_of stage p).heading progress c) }
+    // The heading that undoes the step which the carrier makes at a moment.
+    pub fn heading_back(&self, moment: Moment) -> Heading
+        ensures { (p : Plan) (c : ℕ) → HasRoute p c self.now → result ≡ opposite ((motion_of moment.stage p).heading moment.progress c) }
     {
-        self.heading(stage, progress).opposite()
+        self.heading(moment).opposite()
     }
 
-    // The carrier's square in a stage, after `progress` steps of it.
-    pub fn place(&self, stage: Stage, progress: usize) -> Square
-        ensures { (p : Plan) (c : ℕ) → HasRoute p c self.now → result ≡ (motion_of stage p).place progress c }
+    // The carrier's square at a moment.
+    pub fn place(&self, moment: Moment) -> Square
+        ensures { (p : Plan) (c : ℕ) → HasRoute p c self.now → result ≡ (motion_of moment.stage p).place moment.progress c }
     {
+        let Moment { stage, progress } = moment;
         match stage {
             Stage::FirstColumns => self.first_columns().square(self.start.bay, progress),
             Stage::Turn => turn_square(self.start.bay, u16::from(self.middle_row), progress),
@@ -66,40 +63,21 @@ impl Route {
     pub fn heading_at(&self, stages: &Stages, step: usize) -> Heading
         ensures { (p : Plan) (c : ℕ) → HasRoute p c self.now → Staged p stages.now → result ≡ (whole p).heading step c }
     {
-        let (stage, made) = stages.at(step);
-        self.heading(stage, made)
+        self.heading(stages.at(step))
     }
 
     // The heading that undoes the step which the carrier makes after `step` steps of the plan with these stages.
     pub fn heading_back_at(&self, stages: &Stages, step: usize) -> Heading
         ensures { (p : Plan) (c : ℕ) → HasRoute p c self.now → Staged p stages.now → result ≡ opposite ((whole p).heading step c) }
     {
-        let (stage, made) = stages.at(step);
-        self.heading_back(stage, made)
+        self.heading_back(stages.at(step))
     }
 
     // The carrier's square after `step` steps of the plan with these stages.
     pub fn place_at(&self, stages: &Stages, step: usize) -> Square
         ensures { (p : Plan) (c : ℕ) → HasRoute p c self.now → Staged p stages.now → result ≡ (whole p).place step c }
     {
-        let (stage, made) = stages.at(step);
-        self.place(stage, made)
-    }
-
-    // The stage's run, seen upright; in a turn there is none, so nowhere to go.
-    fn run(&self, stage: Stage) -> Run
-        ensures from { result.from ≡ run_from stage self.now }
-        ensures to { result.to ≡ run_to stage self.now }
-    {
-        match stage {
-            Stage::FirstColumns => self.first_columns(),
-            Stage::Rows => self.rows(),
-            Stage::LastColumns => self.last_columns(),
-            Stage::Turn | Stage::TurnBack => {
-                let row = u16::from(self.middle_row);
-                Run { from: row, to: row }
-            }
-        }
+        self.place(stages.at(step))
     }
 
     fn first_columns(&self) -> Run
@@ -134,25 +112,16 @@ impl Route {
         }
     }
 
-    // The heading in a turn's first step, seen upright.
-    fn turns_aside(&self) -> Heading
-        ensures { result ≡ turn_heading self.now.middle_row 0 }
+    // The heading in a turn, seen upright.
+    fn turns(&self, progress: usize) -> Heading
+        ensures { result ≡ turn_heading self.now.middle_row progress }
     {
-        match self.middle_row % 3 {
-            0 => Heading::Left,
-            1 => Heading::Stay,
-            _ => Heading::Right,
-        }
-    }
-
-    // The heading in a turn's second step, seen upright.
-    fn turns_in(&self) -> Heading
-        ensures { result ≡ turn_heading self.now.middle_row 1 }
-    {
-        match self.middle_row % 3 {
-            0 => Heading::Down,
-            1 => Heading::Stay,
-            _ => Heading::Up,
+        match (self.middle_row % 3, progress) {
+            (1, _) => Heading::Stay,
+            (0, 0) => Heading::Left,
+            (_, 0) => Heading::Right,
+            (0, _) => Heading::Down,
+            (_, _) => Heading::Up,
         }
     }
 

@@ -1,59 +1,30 @@
-ghost use Rattle.std.specs.Prelude.{◌≡◌, if◌then◌else◌, ◌==◌, nat_lt};
+ghost use Rattle.std.specs.Prelude.{◌≡◌, if◌then◌else◌, nat_lt};
 ghost use Rattle.grid.specs.declared.heading.Heading.TheVariants.{Up, Right, Down, Left};
-ghost use Rattle.motion.specs.Runs.{away, run_square, turn_square};
+ghost use Rattle.motion.specs.Runs.{away, run_square, run_heading, turn_square};
 
 use grid::heading::Heading;
 use grid::square::Square;
 
 // A run along a line, seen upright: from one row to another.
-#[derive(Clone, Copy)]
+#[derive(Clone, Copy, Debug, PartialEq, Eq)]
 pub struct Run {
     pub from: u16,
     pub to: u16,
 }
 
 impl Run {
-    // How far it goes.
-    pub fn distance(self) -> usize
-        ensures { result ≡ away self.from self.to }
+    // The heading in the step after `progress` steps of the run.
+    pub fn heading(self, progress: usize) -> Heading
+        ensures { result ≡ run_heading self.from self.to progress }
     {
-        usize::from(self.from.abs_diff(self.to))
-    }
-
-    // Whether it has nowhere to go.
-    pub fn is_still(self) -> bool
-        ensures { result ≡ (self.from == self.to) }
-    {
-        self.from == self.to
-    }
-
-    // The heading out of the middle column.
-    pub fn aside(self) -> Heading
-        ensures { result ≡ (if nat_lt self.to self.from then Left else Right) }
-    {
-        if self.to < self.from {
-            Heading::Left
-        } else {
-            Heading::Right
+        let way = self.distance();
+        match progress {
+            _ if way == 0 => Heading::Stay,
+            0 => self.aside(),
+            p if p <= way => self.along(),
+            p if p == way + 1 => self.back(),
+            _ => Heading::Stay,
         }
-    }
-
-    // The heading along the line.
-    pub fn along(self) -> Heading
-        ensures { result ≡ (if nat_lt self.to self.from then Up else Down) }
-    {
-        if self.to < self.from {
-            Heading::Up
-        } else {
-            Heading::Down
-        }
-    }
-
-    // The heading back into the middle column.
-    pub fn back(self) -> Heading
-        ensures { result ≡ (if nat_lt self.to self.from then Right else Left) }
-    {
-        self.aside().opposite()
     }
 
     // The square after `progress` steps of the run in a line.
@@ -76,6 +47,38 @@ impl Run {
                 column: if aside && way > 0 { middle + 1 } else { middle },
             }
         }
+    }
+
+    // How far it goes.
+    fn distance(self) -> usize
+        ensures { result ≡ away self.from self.to }
+    {
+        usize::from(self.from.abs_diff(self.to))
+    }
+
+    // The heading along the line.
+    fn along(self) -> Heading
+        ensures { result ≡ (if nat_lt self.to self.from then Up else Down) }
+    {
+        if self.to < self.from {
+            Heading::Up
+        } else {
+            Heading::Down
+        }
+    }
+
+    // The heading out of the middle column: the one along the line, with rows and columns exchanged.
+    fn aside(self) -> Heading
+        ensures { result ≡ (if nat_lt self.to self.from then Left else Right) }
+    {
+        self.along().turned()
+    }
+
+    // The heading back into the middle column.
+    fn back(self) -> Heading
+        ensures { result ≡ (if nat_lt self.to self.from then Right else Left) }
+    {
+        self.aside().opposite()
     }
 }
 

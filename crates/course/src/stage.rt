@@ -1,15 +1,17 @@
-ghost use Rattle.std.specs.Prelude.{◌≡◌, ℕ, ◌+◌, ◌<◌, length, if◌then◌else◌, nat_eq};
+ghost use Rattle.std.specs.Prelude.{◌≡◌, ℕ, ◌+◌, ◌<◌, if◌then◌else◌, nat_eq};
+ghost use Rattle.std.specs.Fn.{FnReturnsAt};
 ghost use Rattle.motion.specs.Plans.{Plan, run_steps, plan_steps, whole};
 ghost use Rattle.course.specs.Routes.{plan_of};
 ghost use Rattle.course.specs.Stages.{motion_of, Alike, Staged, Standing};
-ghost use Rattle.course.specs.Furthest.{furthest_first, furthest_across, furthest_last};
+ghost use Rattle.course.specs.declared.route.Route.{Route as AnyRoute};
+ghost use Rattle.course.specs.Greatest.{greatest_of};
 ghost use Rattle.course.specs.Upright.{on_deck};
 
 use crate::route::Route;
 use grid::heading::Heading;
 
 // The stages of every plan, in their order.
-#[derive(Clone, Copy)]
+#[derive(Clone, Copy, Debug, PartialEq, Eq)]
 pub enum Stage {
     FirstColumns,
     Turn,
@@ -19,6 +21,17 @@ pub enum Stage {
 }
 
 impl Stage {
+    // The moment after so many steps of the stage.
+    fn after(self, progress: usize) -> Moment
+        ensures stage { result.stage ≡ self }
+        ensures progress { result.progress ≡ progress }
+    {
+        Moment {
+            stage: self,
+            progress,
+        }
+    }
+
     // How a heading that is seen upright in the stage is on the deck.
     pub(crate) fn on_deck(self, upright: Heading) -> Heading
         ensures { result ≡ on_deck self upright }
@@ -30,8 +43,16 @@ impl Stage {
     }
 }
 
+// When in a plan: in which stage, and after how many steps of it.
+#[derive(Clone, Copy, Debug, PartialEq, Eq)]
+pub struct Moment {
+    pub stage: Stage,
+    pub progress: usize,
+}
+
 // How many steps each stage of a plan has.
-#[derive(Clone, Copy)]
+// Kept as it is: an array by stage would be no plainer, since the definition of each length is one of its own.
+#[derive(Clone, Copy, Debug, PartialEq, Eq)]
 pub struct Stages {
     pub first_columns: u16,
     pub turn: u16,
@@ -45,13 +66,15 @@ impl Stages {
     pub fn of(routes: &[Route]) -> Stages
         ensures { (height width : ℕ) → Staged (plan_of height width routes.now) result }
     {
-        let far = Furthest::of(routes);
+        let first = greatest(routes, |route| route.start.row.abs_diff(route.middle_row));
+        let across = greatest(routes, |route| route.start.bay.abs_diff(route.goal.bay));
+        let last = greatest(routes, |route| route.middle_row.abs_diff(route.goal.row));
         Stages {
-            first_columns: steps_of_runs(u16::from(far.first)),
-            turn: steps_of_turn(far.across),
-            rows: steps_of_runs(3 * u16::from(far.across)),
-            turn_back: steps_of_turn(far.across),
-            last_columns: steps_of_runs(u16::from(far.last)),
+            first_columns: steps_of_runs(u16::from(first)),
+            turn: steps_of_turn(across),
+            rows: steps_of_runs(3 * u16::from(across)),
+            turn_back: steps_of_turn(across),
+            last_columns: steps_of_runs(u16::from(last)),
         }
     }
 
@@ -69,52 +92,30 @@ impl Stages {
 
     // The stage that the plan is in after `step` steps, and how many of them are of that stage. Stages without steps
     // are passed over.
-    pub fn at(&self, step: usize) -> (Stage, usize)
-        ensures standing { Standing self.now step result.0 result.1 }
-        ensures alike { (p : Plan) → Staged p self.now → Alike (whole p) step (motion_of result.0 p) result.1 }
+    pub fn at(&self, step: usize) -> Moment
+        ensures standing { Standing self.now step result.stage result.progress }
+        ensures alike { (p : Plan) → Staged p self.now → Alike (whole p) step (motion_of result.stage p) result.progress }
     {
         let turn = usize::from(self.first_columns);
         let rows = turn + usize::from(self.turn);
         let turn_back = rows + usize::from(self.rows);
         let last_columns = turn_back + usize::from(self.turn_back);
         match step {
-            t if t < turn => (Stage::FirstColumns, t),
-            t if t < rows => (Stage::Turn, t - turn),
-            t if t < turn_back => (Stage::Rows, t - rows),
-            t if t < last_columns => (Stage::TurnBack, t - turn_back),
-            t => (Stage::LastColumns, t - last_columns),
+            t if t < turn => Stage::FirstColumns.after(t),
+            t if t < rows => Stage::Turn.after(t - turn),
+            t if t < turn_back => Stage::Rows.after(t - rows),
+            t if t < last_columns => Stage::TurnBack.after(t - turn_back),
+            t => Stage::LastColumns.after(t - last_columns),
         }
     }
 }
 
-// How far carriers go at most: to their middle rows, from bay to bay, and from their middle rows.
-#[derive(Clone, Copy)]
-struct Furthest {
-    first: u8,
-    across: u8,
-    last: u8,
-}
-
-impl Furthest {
-    fn of(routes: &[Route]) -> Furthest
-        ensures first { result.first ≡ furthest_first (length routes.now) routes.now }
-        ensures across { result.across ≡ furthest_across (length routes.now) routes.now }
-        ensures last { result.last ≡ furthest_last (length routes.now) routes.now }
-    {
-        let mut first = 0;
-        let mut across = 0;
-        let mut last = 0;
-        for route in routes {
-            first = route.start.row.abs_diff(route.middle_row).max(first);
-            across = route.start.bay.abs_diff(route.goal.bay).max(across);
-            last = route.middle_row.abs_diff(route.goal.row).max(last);
-        }
-        Furthest {
-            first,
-            across,
-            last,
-        }
-    }
+// The greatest of what is asked of each route, 0 where there is none.
+fn greatest<F: Fn(&Route) -> u8>(routes: &[Route], ask: F) -> u8
+    requires { (state : F) (route : _) → F.pre state route }
+    ensures { (answer : AnyRoute → ℕ) → ((r : AnyRoute) (n : ℕ) → FnReturnsAt F.Fn ask r n → n ≡ answer r) → result ≡ greatest_of answer routes.now }
+{
+    routes.iter().map(ask).max().unwrap_or(0)
 }
 
 // The steps of runs of which the longest goes so far.
