@@ -1,5 +1,6 @@
 -- A floor in which every carrier rests where it stands: its places are permutations, and it has nothing to do.
-use Rattle.std.proofs.Common.{◌≡◌, ℕ, zero, suc, ◌+◌, ◌*◌, ◌%◌, ◌<◌, max, cond, eqb, List, length, Some, None, Option, sym, refl, ap, ◌∙◌, subst, arith, MatchOption}
+use Rattle.std.proofs.Common.{◌≡◌, ℕ, zero, suc, ◌+◌, ◌*◌, ◌%◌, ◌<◌, ◌≤◌, max, cond, eqb, List, ◌++◌, length, take, Some, None, Option, sym, refl, ap, ◌∙◌, subst, arith, get_or-take, MatchOption}
+use Rattle.std.proofs.lemmas.List.{get_or_append_left}
 use Rattle.grid.specs.declared.sides.Sides.{Sides}
 use Rattle.grid.specs.declared.slot.Slot.{Slot}
 use Rattle.grid.specs.declared.square.Square.{Square}
@@ -12,12 +13,11 @@ use Rattle.motion.specs.Carrying.{InSlots, Good}
 use Rattle.motion.proofs.Lengths.{greatest_none, greatest_more}
 use Rattle.course.specs.declared.route.Route.{Route}
 use Rattle.course.specs.declared.stage.Stages.{Stages}
-use Rattle.course.specs.Routes.{route_at, plan_of}
-use Rattle.course.specs.Stages.{Staged}
+use Rattle.course.specs.Routes.{nowhere, route_at, plan_of}
+use Rattle.course.specs.Stages.{Staged, total_steps}
 use Rattle.chain.specs.Floors.{Sized}
 use Rattle.chain.specs.Calls.{InSlot, OnSlots, Opening}
 use Rattle.floor.specs.Places.{starts, after_first_columns, before_last_columns, goals}
-use Rattle.floor.specs.Shown.{total_steps}
 use Rattle.floor.specs.Resting.{SlotUnder, resting, Rests, AllRest}
 
 -- the sides that were asked for
@@ -127,3 +127,20 @@ rests_in h w v c s r e i = subst (Rests h w v c) (sym e) (record { stands = i; r
 
 pub on_slots : (h w : ℕ) (v : DeckView) (routes : List Route) → AllRest h w v (slot_count h w) routes → OnSlots h w v
 on_slots h w v routes all c l = ((route_at routes c).start, (all c l).stands)
+
+-- the first of a list stay the first where more follow
+pub front_rests :
+    (h w : ℕ) (v : DeckView) (n : ℕ) (routes more : List Route)
+    → n ≤ length routes
+    → AllRest h w v n routes
+    → AllRest h w v n (routes ++ more)
+front_rests h w v n routes more room all c l =
+    subst (Rests h w v c) (sym (get_or_append_left routes more nowhere c (omega arith))) (all c l)
+
+pub taken_rest :
+    (h w : ℕ) (v : DeckView) (n m : ℕ) (routes : List Route)
+    → m ≡ n
+    → AllRest h w v n routes
+    → AllRest h w v n (take m routes)
+taken_rest h w v n m routes same all c l =
+    subst (Rests h w v c) (sym (get_or-take m routes c nowhere (omega arith))) (all c l)
