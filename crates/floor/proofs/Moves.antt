@@ -5,7 +5,7 @@ use Rattle.grid.specs.declared.heading.Heading.TheVariants.{Stay}
 use Rattle.grid.specs.declared.square.Square.{Square}
 use Rattle.grid.specs.Sides.{slot_count}
 use Rattle.deck.specs.declared.fault.DeckFault.{DeckFault}
-use Rattle.deck.specs.Decks.{DeckView, Lawful, end, SameFloor, Unchanged, Halted, Went}
+use Rattle.deck.specs.Decks.{DeckView, Lawful, end, SameFloor, Unchanged, Went}
 use Rattle.deck.specs.Driven.{headed, Driven}
 use Rattle.deck.proofs.Driving.{goes_alike}
 use Rattle.deck.proofs.Settling.{settled}

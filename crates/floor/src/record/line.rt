@@ -23,6 +23,7 @@ fn write_letters(routes: &[Route], moment: Moment, out: &mut [u8])
 
 impl Floor {
     // Writes the next step from place `at` on, and answers how many bytes it is.
+    // Kept as it is: the caller lends its buffer and a place in it, and is answered a refusal where there is no room.
     pub fn line(&self, out: &mut [u8], at: usize) -> Result<usize, FloorFault>
         ensures { Lined (shown self.now) out.old at result out.new }
     {

@@ -22,6 +22,7 @@ use grid::heading::Heading;
 use grid::sides::GREATEST_SLOTS;
 
 // Whether a step of the plan is made or undone.
+// Kept as it is: a closure would be no plainer, since a way also says where the carriers stand before and after.
 #[derive(Clone, Copy, PartialEq, Eq, Debug)]
 enum Way {
     On,
@@ -62,7 +63,13 @@ impl Floor {
     }
 
     // Makes a move of the plan if the deck stands as the record says, after which so many steps are done.
-    fn move_on<D: Deck>(&mut self, deck: &mut D, step: usize, way: Way, done: usize) -> Result<usize, FloorFault>
+    fn move_on<D: Deck>(
+        &mut self,
+        deck: &mut D,
+        step: usize,
+        way: Way,
+        done: usize,
+    ) -> Result<usize, FloorFault>
         requires leaves { leaving way (shown self.old).plan step ≡ (whole (shown self.old).plan).place (shown self.old).done }
         requires comes { coming way (shown self.old).plan step ≡ (whole (shown self.old).plan).place done }
         requires next { step < (shown self.old).length }

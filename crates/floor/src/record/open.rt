@@ -67,6 +67,7 @@ fn rest_all<D: Deck>(deck: &D, sides: Sides) -> Option<[Route; GREATEST_SLOTS]>
 impl Floor {
     // A floor with nothing to do: every carrier rests in the slot where the deck shows it. What the record promises
     // from here on, through every chain of calls, is `every_chain`.
+    // Kept as it is: the call asks itself whether two numbers are a floor's sides, so it takes the numbers.
     pub fn open<D: Deck>(
         heap: Global,
         deck: &D,

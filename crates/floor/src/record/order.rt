@@ -44,10 +44,14 @@ fn write_starts(routes: &[Route], done: usize, starts: &mut [Route])
     requires { length starts.old ≡ length routes.now }
     ensures { (c : ℕ) → c < length routes.now → (route_at starts.new c).start ≡ present done (route_at routes.now c) }
 {
-    write_each(routes, starts, |route| Route {
-        start: present_slot(route, done),
-        ..NOWHERE
-    });
+    write_each(
+        routes,
+        starts,
+        |route| Route {
+            start: present_slot(route, done),
+            ..NOWHERE
+        },
+    );
 }
 
 impl Floor {

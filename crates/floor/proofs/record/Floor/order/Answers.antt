@@ -1,4 +1,4 @@
-use Rattle.std.proofs.Common.{◌≡◌, ℕ, ◌<◌, ◌≤◌, List, length, vec_items, sym, refl, ap, ◌∙◌, subst, arith, length-take}
+use Rattle.std.proofs.Common.{◌≡◌, ℕ, ◌<◌, List, length, vec_items, sym, refl, ap, ◌∙◌, subst, arith, length-take}
 use Rattle.grid.specs.declared.sides.Sides.{Sides}
 use Rattle.grid.specs.Sides.{slot_count}
 use Rattle.motion.specs.Plans.{Plan}

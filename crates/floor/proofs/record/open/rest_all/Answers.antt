@@ -1,4 +1,4 @@
-use Rattle.std.proofs.Common.{◌≡◌, ◌<◌, ◌≤◌, length, ◌∙◌, arith, length-take}
+use Rattle.std.proofs.Common.{◌≡◌, length, ◌∙◌, arith, length-take}
 use Rattle.grid.specs.Sides.{slot_count}
 use Rattle.floor.proofs.Records.{few_slots}
 use Rattle.floor.proofs.Openings.{front_rests}
