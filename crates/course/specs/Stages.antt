@@ -26,6 +26,10 @@ pub record Staged (p : Plan) (s : Stages) : Type 0 where
   pub turn_back : s.turn_back ≡ turn_back_steps p
   pub last_columns : s.last_columns ≡ last_columns_steps p
 
+-- the steps of all stages together
+abbrev pub total_steps : Stages → ℕ
+total_steps s = s.first_columns + s.turn + s.rows + s.turn_back + s.last_columns
+
 -- the steps of the stages before one
 abbrev pub steps_before : Stages → Stage → ℕ
 steps_before s FirstColumns = 0

@@ -2,7 +2,7 @@ ghost use Rattle.std.specs.Prelude.{◌≡◌, ℕ, ◌+◌, ◌<◌, if◌then�
 ghost use Rattle.std.specs.Fn.{FnReturnsAt};
 ghost use Rattle.motion.specs.Plans.{Plan, run_steps, plan_steps, whole};
 ghost use Rattle.course.specs.Routes.{plan_of};
-ghost use Rattle.course.specs.Stages.{motion_of, Alike, Staged, Standing};
+ghost use Rattle.course.specs.Stages.{motion_of, Alike, Staged, Standing, total_steps};
 ghost use Rattle.course.specs.declared.route.Route.{Route as AnyRoute};
 ghost use Rattle.course.specs.Greatest.{greatest_of};
 ghost use Rattle.course.specs.Upright.{on_deck};
@@ -80,7 +80,7 @@ impl Stages {
 
     // The plan's length.
     pub fn total(&self) -> usize
-        ensures sum { result ≡ self.now.first_columns + self.now.turn + self.now.rows + self.now.turn_back + self.now.last_columns }
+        ensures sum { result ≡ total_steps self.now }
         ensures whole { (p : Plan) → Staged p self.now → result ≡ plan_steps p }
     {
         usize::from(self.first_columns)

@@ -1,22 +1,24 @@
 -- A move of a good plan is refused only where the deck is not ready, and leads where the plan says.
-use Rattle.std.proofs.Common.{◌≡◌, ℕ, ◌+◌, ◌<◌, Bool, true, false, List, length, get_or, is_err, Ok, Err, Result, sym, refl, ◌∙◌, arith}
+use Rattle.std.proofs.Common.{◌≡◌, ℕ, ◌+◌, ◌<◌, Bool, true, false, List, length, get_or, Ok, Err, Result, sym, refl, ◌∙◌, arith}
 use Rattle.grid.specs.declared.heading.Heading.{Heading}
 use Rattle.grid.specs.declared.heading.Heading.TheVariants.{Stay}
 use Rattle.grid.specs.declared.square.Square.{Square}
 use Rattle.grid.specs.Sides.{slot_count}
 use Rattle.deck.specs.declared.fault.DeckFault.{DeckFault}
-use Rattle.deck.specs.Decks.{DeckView, Lawful, end, SameFloor, Unchanged, Halted, Went}
+use Rattle.deck.specs.Decks.{DeckView, Lawful, end, SameFloor, Unchanged, Went}
 use Rattle.deck.specs.Driven.{headed, Driven}
 use Rattle.deck.proofs.Driving.{goes_alike}
 use Rattle.deck.proofs.Settling.{settled}
 use Rattle.motion.specs.Plans.{Plan, whole, plan_steps}
 use Rattle.motion.specs.Carrying.{Good, moment, retreat}
 use Rattle.motion.proofs.Whole.{plans_are_carried}
-use Rattle.chain.specs.Floors.{Sized}
+use Rattle.chain.specs.Floors.{FloorView, Sized}
+use Rattle.chain.specs.Calls.{StepRefused, BackRefused, Stepped, Backed}
+use Rattle.chain.specs.declared.fault.FloorFault.{FloorFault}
 use Rattle.floor.specs.declared.record.moves.Way.{Way}
 use Rattle.floor.specs.declared.record.moves.Way.TheVariants.{On, Back}
 use Rattle.floor.specs.Standing.{Placed}
-use Rattle.floor.specs.Moving.{way_heading, leaving, coming, Gone}
+use Rattle.floor.specs.Moving.{way_heading, leaving, coming, Gone, HeldBack, Advanced}
 
 not-true : (b : Bool) → (b ≡ true → ⊥) → b ≡ false
 not-true true n = absurd (n refl)
@@ -101,10 +103,27 @@ module _ {U : Type 0} (p : Plan) (v w : DeckView) (hs : List Heading) (r : Resul
         ready = refl;
       })
 
-pub gone_err :
-    {U : Type 0} (v w : DeckView) (place : ℕ → Square) (r : Result U DeckFault)
-    → true ≡ is_err r
-    → Gone v place r w
-    → (v.ready ≡ false) × Halted v w
-gone_err v w place (Ok u) e g = absurd (let z : ◌≡◌ {A = ℕ} 0 1 = cc in omega arith)
-gone_err v w place (Err f) e g = g
+-- what a move that is asked for comes to is what step, or back, comes to
+step_held : (f : FloorView) (v w : DeckView) (e : FloorFault) → f.done < f.length → HeldBack f v w e → StepRefused f v w e
+step_held f v w e l (HeldBack.astray off same) = StepRefused.astray l off same
+step_held f v w e l (HeldBack.go_refused stands why halted) = StepRefused.go_refused l stands why halted
+
+pub stepped_by :
+    (f : FloorView) (v : DeckView) (r : Result ℕ FloorFault) (g : FloorView) (w : DeckView)
+    → f.done < f.length
+    → Advanced f v (f.done + 1) r g w
+    → Stepped f v r g w
+stepped_by f v (Ok n) g w l (e, moved) = (l, e, moved)
+stepped_by f v (Err e) g w l (held, same) = (step_held f v w e l held, same)
+
+back_held : (f : FloorView) (v w : DeckView) (e : FloorFault) → 0 < f.done → HeldBack f v w e → BackRefused f v w e
+back_held f v w e l (HeldBack.astray off same) = BackRefused.astray l off same
+back_held f v w e l (HeldBack.go_refused stands why halted) = BackRefused.go_refused l stands why halted
+
+pub backed_by :
+    (f : FloorView) (v : DeckView) (n : ℕ) (r : Result ℕ FloorFault) (g : FloorView) (w : DeckView)
+    → n + 1 ≡ f.done
+    → Advanced f v n r g w
+    → Backed f v r g w
+backed_by f v n (Ok m) g w l (e, moved) = (omega arith, moved)
+backed_by f v n (Err e) g w l (held, same) = (back_held f v w e (omega arith) held, same)

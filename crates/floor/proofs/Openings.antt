@@ -1,8 +1,8 @@
 -- A floor in which every carrier rests where it stands: its places are permutations, and it has nothing to do.
-use Rattle.std.proofs.Common.{◌≡◌, ℕ, zero, suc, ◌+◌, ◌*◌, ◌%◌, ◌<◌, max, cond, eqb, List, length, Some, None, Option, sym, refl, ap, ◌∙◌, subst, arith, MatchOption}
+use Rattle.std.proofs.Common.{◌≡◌, ℕ, zero, suc, ◌+◌, ◌*◌, ◌%◌, ◌<◌, ◌≤◌, max, cond, eqb, List, ◌++◌, length, take, sym, refl, ap, ◌∙◌, subst, arith, get_or-take}
+use Rattle.std.proofs.lemmas.List.{get_or_append_left}
 use Rattle.grid.specs.declared.sides.Sides.{Sides}
 use Rattle.grid.specs.declared.slot.Slot.{Slot}
-use Rattle.grid.specs.declared.square.Square.{Square}
 use Rattle.grid.specs.Sides.{row_count, slot_count}
 use Rattle.grid.specs.Slots.{slot, slot_square}
 use Rattle.deck.specs.Decks.{DeckView, Sound}
@@ -12,25 +12,16 @@ use Rattle.motion.specs.Carrying.{InSlots, Good}
 use Rattle.motion.proofs.Lengths.{greatest_none, greatest_more}
 use Rattle.course.specs.declared.route.Route.{Route}
 use Rattle.course.specs.declared.stage.Stages.{Stages}
-use Rattle.course.specs.Routes.{route_at, plan_of}
-use Rattle.course.specs.Stages.{Staged}
+use Rattle.course.specs.Routes.{nowhere, route_at, plan_of}
+use Rattle.course.specs.Stages.{Staged, total_steps}
 use Rattle.chain.specs.Floors.{Sized}
-use Rattle.chain.specs.Calls.{InSlot, OnSlots, Opening}
+use Rattle.chain.specs.Calls.{OnSlots, Opening}
 use Rattle.floor.specs.Places.{starts, after_first_columns, before_last_columns, goals}
-use Rattle.floor.specs.Shown.{total_steps}
-use Rattle.floor.specs.Resting.{SlotUnder, resting, Rests, AllRest}
+use Rattle.floor.specs.Resting.{Rests, AllRest}
 
 -- the sides that were asked for
 pub at_sides : (s : Sides) (h w : ℕ) → (s.height ≡ h) × (s.width ≡ w) → (P : ℕ → ℕ → Type 0) → P s.height s.width → P h w
 at_sides s h w e P x = subst (λ (b : ℕ). P h b) e.1 (subst (λ (a : ℕ). P a s.width) e.0 x)
-
-pub slot_of_square :
-    (h w : ℕ) (v : DeckView) (c : ℕ) (q : Square) (o : Option Slot)
-    → q ≡ v.square c
-    → MatchOption o ((s : Slot) → SlotUnder h w q s → ⊥) (λ s. SlotUnder h w q s)
-    → MatchOption o ((s : Slot) → InSlot h w v c s → ⊥) (λ s. InSlot h w v c s)
-slot_of_square h w v c q (Some s) e u = record { row = u.row; bay = u.bay; square = u.square ∙ e }
-slot_of_square h w v c q None e n = λ s i. n s (record { row = i.row; bay = i.bay; square = i.square ∙ sym e })
 
 greatest_zero : (n : ℕ) (f : ℕ → ℕ) → ((c : ℕ) → c < n → f c ≡ 0) → greatest n f ≡ 0
 greatest_zero zero f h = greatest_none f
@@ -121,9 +112,22 @@ module _ (h w : ℕ) (v : DeckView) (routes : List Route) (sized : Sized h w v) 
         orders = refl;
       }
 
-pub rests_in :
-    (h w : ℕ) (v : DeckView) (c : ℕ) (s : Slot) (r : Route) → r ≡ resting s → InSlot h w v c s → Rests h w v c r
-rests_in h w v c s r e i = subst (Rests h w v c) (sym e) (record { stands = i; rests = refl })
-
 pub on_slots : (h w : ℕ) (v : DeckView) (routes : List Route) → AllRest h w v (slot_count h w) routes → OnSlots h w v
 on_slots h w v routes all c l = ((route_at routes c).start, (all c l).stands)
+
+-- the first of a list stay the first where more follow
+pub front_rests :
+    (h w : ℕ) (v : DeckView) (n : ℕ) (routes more : List Route)
+    → n ≤ length routes
+    → AllRest h w v n routes
+    → AllRest h w v n (routes ++ more)
+front_rests h w v n routes more room all c l =
+    subst (Rests h w v c) (sym (get_or_append_left routes more nowhere c (omega arith))) (all c l)
+
+pub taken_rest :
+    (h w : ℕ) (v : DeckView) (n m : ℕ) (routes : List Route)
+    → m ≡ n
+    → AllRest h w v n routes
+    → AllRest h w v n (take m routes)
+taken_rest h w v n m routes same all c l =
+    subst (Rests h w v c) (sym (get_or-take m routes c nowhere (omega arith))) (all c l)

@@ -1,20 +1,16 @@
 -- What every floor record gives.
 use Rattle.std.proofs.Common.{◌≡◌, ℕ, ◌<◌, ◌≤◌, Bool, true, false, List, length, get_or, vec_items, MatchBool, sym, refl, ap, ◌∙◌, subst, mul-le-mul, mul-le-mul_left, arith}
 use Rattle.grid.specs.declared.heading.Heading.{Heading}
-use Rattle.grid.specs.declared.slot.Slot.{Slot}
 use Rattle.grid.specs.declared.heading.Heading.TheVariants.{Stay}
 use Rattle.grid.specs.Sides.{greatest_side, GoodSides, slot_count}
 use Rattle.deck.specs.Decks.{DeckView, Unchanged}
-use Rattle.motion.specs.Plans.{whole, first_columns_steps, turn_steps, rows_steps, turn_back_steps, last_columns_steps}
-use Rattle.motion.specs.Carrying.{InSlots, Good}
+use Rattle.motion.specs.Plans.{whole}
 use Rattle.course.specs.declared.route.Route.{Route}
 use Rattle.course.specs.declared.stage.Stage.{Stage}
-use Rattle.course.specs.declared.stage.Stages.{Stages}
 use Rattle.course.specs.Routes.{plan_of}
-use Rattle.course.specs.Stages.{motion_of, Alike, Staged}
+use Rattle.course.specs.Stages.{motion_of, Alike}
 use Rattle.chain.specs.Floors.{Sized, Stands}
-use Rattle.floor.specs.Places.{Inside, Apart, starts, after_first_columns, before_last_columns, goals}
-use Rattle.floor.specs.Shown.{total_steps, shown, plan_in}
+use Rattle.floor.specs.Shown.{shown, plan_in}
 use Rattle.floor.specs.Standing.{Placed}
 use Rattle.floor.specs.Moving.{way_heading}
 use Rattle.floor.specs.declared.record.Floor.{Floor}
@@ -23,16 +19,6 @@ use Rattle.floor.specs.declared.record.moves.Way.{Way}
 -- no floor has more slots than the largest
 pub few_slots : (h w : ℕ) → GoodSides h w → slot_count h w ≤ slot_count greatest_side greatest_side
 few_slots h w g = mul-le-mul (mul-le-mul_left 3 g.0.1) g.1.1
-
-pub staged : (f : Floor) → Staged (plan_in f) f.stages
-staged f =
-    record {
-      first_columns = f.first_columns;
-      turn = f.turn;
-      rows = f.rows;
-      turn_back = f.turn_back;
-      last_columns = f.last_columns;
-    }
 
 pub unchanged : (v : DeckView) → Unchanged v v
 unchanged v =
@@ -86,49 +72,3 @@ headings_whole f way hs routes stage t n same alike all c l =
     (λ (rs : List Route). (x : ℕ) → x < length rs → get_or hs x Stay ≡ way_heading way ((motion_of stage (plan_of f.sides.height f.sides.width rs)).heading n x))
     same (all f.sides.height f.sides.width) in
     here c l ∙ ap (way_heading way) (sym (alike.heading c))
-
--- What a record's fields owe, by their names.
-pub record Owed (h w : ℕ) (routes : List Route) (s : Stages) (n : ℕ) : Type 0 where
-  pub many : length routes ≡ slot_count h w
-  pub starts_inside : Inside h w (starts routes)
-  pub starts_apart : Apart h w (starts routes)
-  pub lefts_inside : Inside h w (after_first_columns routes)
-  pub lefts_apart : Apart h w (after_first_columns routes)
-  pub rights_inside : Inside h w (before_last_columns routes)
-  pub rights_apart : Apart h w (before_last_columns routes)
-  pub goals_inside : Inside h w (goals routes)
-  pub goals_apart : Apart h w (goals routes)
-  pub first_columns : s.first_columns ≡ first_columns_steps (plan_of h w routes)
-  pub turn : s.turn ≡ turn_steps (plan_of h w routes)
-  pub rows : s.rows ≡ rows_steps (plan_of h w routes)
-  pub turn_back : s.turn_back ≡ turn_back_steps (plan_of h w routes)
-  pub last_columns : s.last_columns ≡ last_columns_steps (plan_of h w routes)
-  pub within : n ≤ total_steps s
-
--- a good plan and its stages pay it
-pub paid :
-    (h w : ℕ) (routes : List Route) (s : Stages) (n : ℕ)
-    → length routes ≡ slot_count h w
-    → Good (plan_of h w routes)
-    → Staged (plan_of h w routes) s
-    → n ≤ total_steps s
-    → Owed h w routes s n
-paid h w routes s n long good st l =
-    let inside : (place : ℕ → Slot) → InSlots (plan_of h w routes) place → Inside h w place = λ place i c m. i.inside c (omega arith) in
-    let apart : (place : ℕ → Slot) → InSlots (plan_of h w routes) place → Apart h w place = λ place i c d cd m. i.apart c d cd (omega arith) in record {
-      many = long;
-      starts_inside = inside (starts routes) good.starts;
-      starts_apart = apart (starts routes) good.starts;
-      lefts_inside = inside (after_first_columns routes) good.after_first_columns;
-      lefts_apart = apart (after_first_columns routes) good.after_first_columns;
-      rights_inside = inside (before_last_columns routes) good.before_last_columns;
-      rights_apart = apart (before_last_columns routes) good.before_last_columns;
-      goals_inside = inside (goals routes) good.goals;
-      goals_apart = apart (goals routes) good.goals;
-      first_columns = st.first_columns;
-      turn = st.turn;
-      rows = st.rows;
-      turn_back = st.turn_back;
-      last_columns = st.last_columns;
-      within = l;
-    }

@@ -9,7 +9,7 @@ use Rattle.chain.specs.Calls.{Ordered}
 use Rattle.chain.specs.Floors.{FloorView}
 use Rattle.chain.specs.Sheets.{Event}
 use Rattle.chain.specs.Chains.{Chain}
-use Rattle.serve.specs.Served.{Account, Leads, Keeps, Served}
+use Rattle.serve.specs.Served.{Account, Leads, Keeps, Told, Served}
 use Rattle.serve.specs.declared.Ending.TheVariants.{Stopped, Spent}
 
 -- so many calls were played from o and z to f and v
@@ -55,31 +55,31 @@ pub marks_back :
 marks_back items last n long same =
     ap (λ (x : List ℕ). take n (x ++ drop (length x) items)) same ∙ take_at items (drop (length items) items) n (sym long)
 
--- an order is played on a deck that the source left unmoved
-pub order_played :
-    (f g : FloorView) (v u : DeckView) (before middle after : Account) (chosen : List ℕ → Type 0) (r : RuleView)
+-- an order was made, and told with the marks that came back
+pub order_told :
+    (f g : FloorView) (v : DeckView) (before after : Account) (chosen : List ℕ → Type 0) (r : RuleView)
     (answer : Result ℕ FloorFault) (marks lent told : List ℕ)
-    → SameFloor v u
-    → Unmoved v u
-    → ((es : List Event) → before f v es → middle f u es)
     → chosen marks
     → lent ≡ marks
     → told ≡ marks
-    → Ordered f u r lent answer g
+    → Ordered f v r lent answer g
     → ((f' : FloorView) (es : List Event)
-    → middle f' u es
+    → before f' v es
     → chosen told
-    → Ordered f' u r told answer g
-    → after g u (Event.order r told answer ∷ es))
-    → (e : Event) × Leads f v (e ∷ []) g u × Keeps f v before (e ∷ []) g u after
-order_played f g v u before middle after chosen r answer marks lent told same still next choice Lent-is told_is is tell =
-    let is-told : Ordered f u r told answer g =
-    subst (λ (m : List ℕ). Ordered f u r m answer g) (Lent-is ∙ sym told_is) is in
-    let choice-told : chosen told = subst chosen (sym told_is) choice in (
+    → Ordered f' v r told answer g
+    → after g v (Event.order r told answer ∷ es))
+    → Told f v before g v after
+order_told f g v before after chosen r answer marks lent told choice lent_is told_is is tell =
+    let is_told : Ordered f v r told answer g = subst (λ (m : List ℕ). Ordered f v r m answer g) (lent_is ∙ sym told_is) is in
+    let choice_told : chosen told = subst chosen (sym told_is) choice in (
       Event.order r told answer,
-      (λ o z es q chain. (_, Chain.ordered r told answer (Chain.drifted chain same still) is-told)),
-      (λ es kept. tell f es (next es kept) choice-told is-told),
+      (λ o z es q chain. (_, Chain.ordered r told answer chain is_told)),
+      (λ es kept. tell f es kept choice_told is_told),
     )
+
+-- the source moved no carrier
+pub still_leads : (f : FloorView) (v w : DeckView) → SameFloor v w → Unmoved v w → Leads f v [] f w
+still_leads f v w same still o z es q chain = (q, Chain.drifted chain same still)
 
 -- what playing comes to
 pub stopped :

@@ -1,5 +1,5 @@
 -- What playing calls comes to.
-use Rattle.std.specs.Prelude.{◌≡◌, ℕ, ◌≤◌, Bool, true, false, List, [], ◌∷◌, ◌++◌, length}
+use Rattle.std.specs.Prelude.{◌≡◌, ℕ, ◌≤◌, List, [], ◌∷◌, ◌++◌, length}
 use Rattle.grid.specs.declared.square.Square.{Square}
 use Rattle.deck.specs.Decks.{DeckView}
 use Rattle.chain.specs.Floors.{FloorView}
@@ -23,11 +23,9 @@ Leads f v events g w =
 abbrev pub Keeps : FloorView → DeckView → Account → List Event → FloorView → DeckView → Account → Type 0
 Keeps f v before events g w after = (es : List Event) → before f v es → after g w (events ++ es)
 
--- one call was played, or the source stopped
-abbrev pub Played : FloorView → DeckView → Account → FloorView → DeckView → Account → Type 0 → Bool → Type 0
-Played f v before g w after over true =
-    (event : Event) × Leads f v (event ∷ []) g w × Keeps f v before (event ∷ []) g w after
-Played f v before g w after over false = Leads f v [] g w × Keeps f v before [] g w after × over
+-- one call was made, and its event told
+abbrev pub Told : FloorView → DeckView → Account → FloorView → DeckView → Account → Type 0
+Told f v before g w after = (event : Event) × Leads f v (event ∷ []) g w × Keeps f v before (event ∷ []) g w after
 
 -- how playing ended
 abbrev pub Ended : Type 0 → ℕ → ℕ → Ending → Type 0

@@ -4,7 +4,7 @@ ghost use Rattle.floor.specs.Shown.{shown};
 use super::Floor;
 
 // How far a floor has come.
-#[derive(Clone, Copy)]
+#[derive(Clone, Copy, PartialEq, Eq, Debug)]
 pub struct Look {
     pub steps_done: usize,
     pub length: usize,

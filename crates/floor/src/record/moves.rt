@@ -1,18 +1,20 @@
 // Step and back.
-ghost use Rattle.std.specs.Prelude.{◌≡◌, ℕ, ◌<◌, length, slice_index_or};
+ghost use Rattle.std.specs.Prelude.{◌≡◌, ℕ, ◌<◌, ◌≤◌, length, slice_index_or};
 ghost use Rattle.grid.specs.declared.heading.Heading.TheVariants.{Stay};
+ghost use Rattle.motion.specs.Plans.{whole};
 ghost use Rattle.course.specs.Routes.{plan_of};
 ghost use Rattle.course.specs.Stages.{motion_of};
 ghost use Rattle.chain.specs.Floors.{Sized, slots};
 ghost use Rattle.chain.specs.Calls.{Stepped, Backed};
 ghost use Rattle.floor.specs.Shown.{shown};
 ghost use Rattle.floor.specs.Standing.{Placed};
-ghost use Rattle.floor.specs.Moving.{way_heading, leaving, coming, Gone};
+ghost use Rattle.floor.specs.Moving.{way_heading, leaving, coming, Gone, Advanced};
 
 use super::Floor;
+use super::each::write_each;
 use chain::fault::FloorFault;
 use course::route::Route;
-use course::stage::Stage;
+use course::stage::Moment;
 use deck::Deck;
 use deck::drive::drive;
 use deck::fault::DeckFault;
@@ -20,7 +22,8 @@ use grid::heading::Heading;
 use grid::sides::GREATEST_SLOTS;
 
 // Whether a step of the plan is made or undone.
-#[derive(Clone, Copy)]
+// Kept as it is: a closure would be no plainer, since a way also says where the carriers stand before and after.
+#[derive(Clone, Copy, PartialEq, Eq, Debug)]
 enum Way {
     On,
     Back,
@@ -37,20 +40,12 @@ impl Way {
     }
 }
 
-// Writes every carrier's heading in a stage after `progress` steps of it, of those that stay too.
-fn write_headings(
-    routes: &[Route],
-    stage: Stage,
-    progress: usize,
-    way: Way,
-    headings: &mut [Heading],
-)
+// Writes every carrier's heading at a moment, of those that stay too.
+fn write_headings(routes: &[Route], moment: Moment, way: Way, headings: &mut [Heading])
     requires { length headings.old ≡ length routes.now }
-    ensures { (h w c : ℕ) → c < length routes.now → slice_index_or headings.new c Stay ≡ way_heading way ((motion_of stage (plan_of h w routes.now)).heading progress c) }
+    ensures { (h w c : ℕ) → c < length routes.now → slice_index_or headings.new c Stay ≡ way_heading way ((motion_of moment.stage (plan_of h w routes.now)).heading moment.progress c) }
 {
-    for c in 0..routes.len() {
-        headings[c] = way.heading(routes[c].heading(stage, progress));
-    }
+    write_each(routes, headings, |route| way.heading(route.heading(moment)));
 }
 
 impl Floor {
@@ -62,46 +57,51 @@ impl Floor {
         ensures { Gone (D.Deck.view deck.old) (coming way (shown self.now).plan step) result (D.Deck.view deck.new) }
     {
         let mut all = [Heading::Stay; GREATEST_SLOTS];
-        let headings = &mut all[0..self.sides.slots()];
-        let (stage, progress) = self.stages.at(step);
-        write_headings(&self.routes, stage, progress, way, headings);
+        let headings = &mut all[..self.sides.slots()];
+        write_headings(&self.routes, self.stages.at(step), way, headings);
         drive(deck, headings)
+    }
+
+    // Makes a move of the plan if the deck stands as the record says, after which so many steps are done.
+    fn move_on<D: Deck>(
+        &mut self,
+        deck: &mut D,
+        step: usize,
+        way: Way,
+        done: usize,
+    ) -> Result<usize, FloorFault>
+        requires leaves { leaving way (shown self.old).plan step ≡ (whole (shown self.old).plan).place (shown self.old).done }
+        requires comes { coming way (shown self.old).plan step ≡ (whole (shown self.old).plan).place done }
+        requires next { step < (shown self.old).length }
+        requires within { done ≤ (shown self.old).length }
+        ensures { Advanced (shown self.old) (D.Deck.view deck.old) done result (shown self.new) (D.Deck.view deck.new) }
+    {
+        if !self.stands(&*deck) {
+            return Err(FloorFault::Astray);
+        }
+        self.make_move(deck, step, way)?;
+        self.steps_done = done;
+        Ok(done)
     }
 
     // Makes the plan's next move.
     pub fn step<D: Deck>(&mut self, deck: &mut D) -> Result<usize, FloorFault>
         ensures { Stepped (shown self.old) (D.Deck.view deck.old) result (shown self.new) (D.Deck.view deck.new) }
     {
-        if self.steps_done >= self.stages.total() {
+        let step = self.steps_done;
+        if step >= self.stages.total() {
             return Err(FloorFault::NoNextMove);
         }
-        if !self.stands(&*deck) {
-            return Err(FloorFault::Astray);
-        }
-        if self.make_move(deck, self.steps_done, Way::On).is_err() {
-            return Err(FloorFault::GoRefused);
-        }
-        self.steps_done += 1;
-        Ok(self.steps_done)
+        self.move_on(deck, step, Way::On, step + 1)
     }
 
     // Makes the reverse of the last move.
     pub fn back<D: Deck>(&mut self, deck: &mut D) -> Result<usize, FloorFault>
         ensures { Backed (shown self.old) (D.Deck.view deck.old) result (shown self.new) (D.Deck.view deck.new) }
     {
-        if self.steps_done == 0 {
+        let Some(step) = self.steps_done.checked_sub(1) else {
             return Err(FloorFault::NoLastMove);
-        }
-        if !self.stands(&*deck) {
-            return Err(FloorFault::Astray);
-        }
-        if self
-            .make_move(deck, self.steps_done - 1, Way::Back)
-            .is_err()
-        {
-            return Err(FloorFault::GoRefused);
-        }
-        self.steps_done -= 1;
-        Ok(self.steps_done)
+        };
+        self.move_on(deck, step, Way::Back, step)
     }
 }

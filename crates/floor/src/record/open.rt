@@ -1,8 +1,7 @@
 // Opening a floor over a deck.
-ghost use Rattle.std.specs.Prelude.{◌≡◌, ℕ, ◌<◌, length, IfOk, MatchBool, MatchOption, MatchResult};
+ghost use Rattle.std.specs.Prelude.{◌≡◌, ◌<◌, IfOk, MatchOption};
 ghost use Rattle.grid.specs.declared.slot.Slot.{Slot as AnySlot};
 ghost use Rattle.grid.specs.Sides.{slot_count};
-ghost use Rattle.chain.specs.declared.fault.FloorFault.TheVariants.{NoMemory};
 ghost use Rattle.chain.specs.Floors.{Sized};
 ghost use Rattle.chain.specs.Calls.{InSlot, OnSlots, Opened};
 ghost use Rattle.chain.specs.Promises.{EveryChainKeepsItsPromises};
@@ -38,10 +37,8 @@ fn slot_of<D: Deck>(deck: &D, sides: Sides, carrier: usize) -> Option<Slot>
     requires { carrier < (D.Deck.view deck.now).carriers }
     ensures { MatchOption result ((s : AnySlot) → InSlot sides.height sides.width (D.Deck.view deck.now) carrier s → ⊥) (λ s. InSlot sides.height sides.width (D.Deck.view deck.now) carrier s) }
 {
-    match deck.place(carrier) {
-        Some(square) => slot_under(sides, square),
-        None => None,
-    }
+    deck.place(carrier)
+        .and_then(|square| slot_under(sides, square))
 }
 
 fn rest_in(slot: Slot) -> Route
@@ -54,34 +51,23 @@ fn rest_in(slot: Slot) -> Route
     }
 }
 
-// Lets every carrier rest in the slot where it stands; false where one stands on none.
-fn rest_all<D: Deck>(deck: &D, sides: Sides, routes: &mut [Route]) -> bool
-    requires sized { Sized sides.height sides.width (D.Deck.view deck.now) }
-    requires size { length routes.old ≡ slot_count sides.height sides.width }
-    ensures { MatchBool result (AllRest sides.height sides.width (D.Deck.view deck.now) (slot_count sides.height sides.width) routes.new) (OnSlots sides.height sides.width (D.Deck.view deck.now) → ⊥) }
+// Every carrier at rest in the slot where it stands; absent where one stands on none.
+fn rest_all<D: Deck>(deck: &D, sides: Sides) -> Option<[Route; GREATEST_SLOTS]>
+    requires { Sized sides.height sides.width (D.Deck.view deck.now) }
+    ensures { MatchOption result (OnSlots sides.height sides.width (D.Deck.view deck.now) → ⊥) (AllRest sides.height sides.width (D.Deck.view deck.now) (slot_count sides.height sides.width)) }
 {
-    for c in 0..routes.len() {
-        match slot_of(deck, sides, c) {
-            Some(slot) => routes[c] = rest_in(slot),
-            None => return false,
-        }
+    let mut all = [NOWHERE; GREATEST_SLOTS];
+    let routes = &mut all[..sides.slots()];
+    for (carrier, route) in routes.iter_mut().enumerate() {
+        *route = rest_in(slot_of(deck, sides, carrier)?);
     }
-    true
-}
-
-// All the memory that a floor needs.
-fn keep(heap: Global, routes: &[Route]) -> Result<Vec<Route>, FloorFault>
-    ensures { MatchResult result (λ v. v.items ≡ routes.now) (λ e. e ≡ NoMemory) }
-{
-    match routes.to_vec(heap) {
-        Ok(kept) => Ok(kept),
-        Err(_) => Err(FloorFault::NoMemory),
-    }
+    Some(all)
 }
 
 impl Floor {
     // A floor with nothing to do: every carrier rests in the slot where the deck shows it. What the record promises
     // from here on, through every chain of calls, is `every_chain`.
+    // Kept as it is: the call asks itself whether two numbers are a floor's sides, so it takes the numbers.
     pub fn open<D: Deck>(
         heap: Global,
         deck: &D,
@@ -97,23 +83,17 @@ impl Floor {
         if !is_sized(deck, sides) {
             return Err(FloorFault::WrongDeck);
         }
-        let mut all = [NOWHERE; GREATEST_SLOTS];
-        let resting = &mut all[0..sides.slots()];
-        if !rest_all(deck, sides, resting) {
+        let Some(resting) = rest_all(deck, sides) else {
             return Err(FloorFault::OffSlot);
-        }
-        match keep(heap, resting) {
-            Ok(routes) => {
-                let stages = Stages::of(&routes);
-                Ok(Floor {
-                    sides,
-                    routes,
-                    stages,
-                    steps_done: 0,
-                    orders: 0,
-                })
-            }
-            Err(fault) => Err(fault),
-        }
+        };
+        let routes = resting[..sides.slots()].to_vec(heap)?;
+        let stages = Stages::of(&routes);
+        Ok(Floor {
+            sides,
+            routes,
+            stages,
+            steps_done: 0,
+            orders: 0,
+        })
     }
 }

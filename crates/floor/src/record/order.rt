@@ -7,6 +7,7 @@ ghost use Rattle.chain.specs.Calls.{AtRest, Clean, RuleFor, Ordered};
 ghost use Rattle.floor.specs.Shown.{shown};
 ghost use Rattle.floor.specs.Present.{present};
 
+use super::each::write_each;
 use super::{Floor, NOWHERE};
 use chain::fault::FloorFault;
 use course::route::Route;
@@ -21,12 +22,7 @@ use rules::Rule;
 fn are_clean(marks: &[u8]) -> bool
     ensures { MatchBool result (Clean marks.now (length marks.now)) (Clean marks.now (length marks.now) → ⊥) }
 {
-    for mark in marks {
-        if *mark != 0 {
-            return false;
-        }
-    }
-    true
+    marks.iter().all(|mark| *mark == 0)
 }
 
 // Whether the rule is for so many slots and carriers.
@@ -48,9 +44,14 @@ fn write_starts(routes: &[Route], done: usize, starts: &mut [Route])
     requires { length starts.old ≡ length routes.now }
     ensures { (c : ℕ) → c < length routes.now → (route_at starts.new c).start ≡ present done (route_at routes.now c) }
 {
-    for c in 0..routes.len() {
-        starts[c].start = present_slot(&routes[c], done);
-    }
+    write_each(
+        routes,
+        starts,
+        |route| Route {
+            start: present_slot(route, done),
+            ..NOWHERE
+        },
+    );
 }
 
 impl Floor {
@@ -95,7 +96,7 @@ impl Floor {
         if marks.len() < slots {
             return Err(FloorFault::FewMarks);
         }
-        if !are_clean(&marks[0..slots]) {
+        if !are_clean(&marks[..slots]) {
             return Err(FloorFault::DirtyMarks);
         }
         if !self.stands(deck) {
@@ -105,7 +106,7 @@ impl Floor {
             return Err(FloorFault::WrongRule);
         }
         let mut all = [NOWHERE; GREATEST_SLOTS];
-        let routes = &mut all[0..slots];
+        let routes = &mut all[..slots];
         write_starts(&self.routes, self.steps_done, routes);
         match make_plan(rule, self.sides, routes, marks) {
             Planning::Made => {

@@ -4,7 +4,6 @@ use Rattle.floor.specs.Shown.{shown, plan_in}
 use Rattle.floor.specs.Lines.{LineRefused, line_bytes}
 use Rattle.script.proofs.Pastes.{pasted}
 use Rattle.floor.proofs.Lines.{letters_whole}
-use Rattle.floor.proofs.Records.{staged}
 use Rattle.floor.proofs.record.Floor.line.Goals as goal
 
 pub returns-then-self-total : goal.returns-then-self-total
@@ -16,11 +15,11 @@ returns-then-not-has_room c = (LineRefused.no_room (omega arith) (omega (arith, 
 pub returns : goal.returns
 returns c =
     let f = c.args.self.now in
-    let at = c.at-stage.result in
+    let at = c.at-moment.result in
     let n : ℕ = c.slots-count.result + 1 in
     let bytes =
-    letters_whole f c.write_letters.new.out c.deref.result.now at.0 at.1 c.deref.ensures.value
-    (c.at-stage.ensures.alike (plan_in f) (staged f))
+    letters_whole f c.write_letters.new.out c.deref.result.now at.stage at.progress c.deref.ensures.value
+    (c.at-moment.ensures.alike (plan_in f) f.staged)
     c.write_letters.ensures in
     let long : n ≡ length (line_bytes (shown f)) = simp (length-append, length-map-range_with_len) (omega arith) in (
       omega arith,

@@ -1,4 +1,4 @@
-use Rattle.std.proofs.Common.{◌≡◌, ℕ, ◌-◌, ◌<◌, ◌≤◌, List, length, vec_items, sym, refl, ap, ◌∙◌, subst, arith, rules}
+use Rattle.std.proofs.Common.{◌≡◌, ℕ, ◌<◌, List, length, vec_items, sym, refl, ap, ◌∙◌, subst, arith, length-take}
 use Rattle.grid.specs.declared.sides.Sides.{Sides}
 use Rattle.grid.specs.Sides.{slot_count}
 use Rattle.motion.specs.Plans.{Plan}
@@ -9,85 +9,49 @@ use Rattle.plan.specs.Making.{start_square}
 use Rattle.chain.specs.Calls.{OrderRefused, RuleFor}
 use Rattle.floor.specs.Present.{present}
 use Rattle.floor.specs.Shown.{plan_in, kept}
-use Rattle.floor.proofs.Records.{few_slots, staged}
+use Rattle.floor.proofs.Records.{few_slots}
 use Rattle.floor.proofs.Orders.{clean_whole, clean_front, starts_in_slots, starts_shown, planned_at}
 use Rattle.floor.proofs.record.Floor.order.Goals as goal
 
-pub returns-then-not-is_at_rest : goal.returns-then-not-is_at_rest
-returns-then-not-is_at_rest g c =
-    record { ordered = (OrderRefused.unfinished c.if-not-is_at_rest.ensures, refl); refused = refl; marks = refl }
+pub returns-then-not-is_at_rest-clause-ordered : goal.returns-then-not-is_at_rest-clause-ordered
+returns-then-not-is_at_rest-clause-ordered g c = (OrderRefused.unfinished c.if-not-is_at_rest.ensures, refl)
 
-pub returns-then-marks-slots : goal.returns-then-marks-slots
-returns-then-marks-slots g c =
-    record { ordered = (OrderRefused.few_marks c.if-not-is_at_rest.ensures (omega arith), refl); refused = refl; marks = refl }
+pub returns-then-marks-slots-clause-ordered : goal.returns-then-marks-slots-clause-ordered
+returns-then-marks-slots-clause-ordered g c = (OrderRefused.few_marks c.if-not-is_at_rest.ensures (omega arith), refl)
 
-pub returns-then-not-are_clean : goal.returns-then-not-are_clean
-returns-then-not-are_clean g c =
-    let f = c.args.self.now in
-    let n = slot_count f.sides.height f.sides.width in
-    let room : n ≤ length c.args.marks.now = omega arith in
-    let same : c.slots-slots.result - 0 ≡ n = omega arith in
-    record {
-      ordered = (
-        OrderRefused.dirty_marks c.if-not-is_at_rest.ensures room
-            (λ clean. c.if-not-are_clean.ensures (clean_front c.args.marks.now n (c.slots-slots.result - 0) same room clean)),
-        refl,
-      );
-      refused = refl;
-      marks = refl;
-    }
+pub returns-then-not-are_clean-clause-ordered : goal.returns-then-not-are_clean-clause-ordered
+returns-then-not-are_clean-clause-ordered g c = (
+  OrderRefused.dirty_marks c.if-not-is_at_rest.ensures (omega arith)
+      (λ clean. c.if-not-are_clean.ensures (clean_front c.args.marks.now _ c.slots-slots.result c.slots-slots.ensures (omega arith) clean)),
+  refl,
+)
 
-pub returns-then-not-stands : goal.returns-then-not-stands
-returns-then-not-stands g c =
-    let f = c.args.self.now in
-    let n = slot_count f.sides.height f.sides.width in
-    let room : n ≤ length c.args.marks.now = omega arith in
-    let same : c.slots-slots.result - 0 ≡ n = omega arith in
-    record {
-      ordered = (
-        OrderRefused.astray c.if-not-is_at_rest.ensures room
-            (clean_whole c.args.marks.now n (c.slots-slots.result - 0) same room c.if-not-are_clean.ensures)
-            c.if-not-stands.ensures,
-        refl,
-      );
-      refused = refl;
-      marks = refl;
-    }
+pub returns-then-not-stands-clause-ordered : goal.returns-then-not-stands-clause-ordered
+returns-then-not-stands-clause-ordered g c = (
+  OrderRefused.astray c.if-not-is_at_rest.ensures (omega arith)
+      (clean_whole c.args.marks.now _ c.slots-slots.result c.slots-slots.ensures (omega arith) c.if-not-are_clean.ensures)
+      c.if-not-stands.ensures,
+  refl,
+)
 
-pub returns-then-not-is_for : goal.returns-then-not-is_for
-returns-then-not-is_for g c =
-    let f = c.args.self.now in
-    let n = slot_count f.sides.height f.sides.width in
-    let room : n ≤ length c.args.marks.now = omega arith in
-    let same : c.slots-slots.result - 0 ≡ n = omega arith in
-    let wrong : RuleFor n (g.R.Rule.meaning c.args.rule.now) → ⊥ =
-    subst (λ (k : ℕ). RuleFor k (g.R.Rule.meaning c.args.rule.now) → ⊥) c.slots-slots.ensures c.if-not-is_for.ensures in
-    record {
-      ordered = (
-        OrderRefused.wrong_rule c.if-not-is_at_rest.ensures room
-            (clean_whole c.args.marks.now n (c.slots-slots.result - 0) same room c.if-not-are_clean.ensures)
-            c.if-not-stands.ensures
-            wrong,
-        refl,
-      );
-      refused = refl;
-      marks = refl;
-    }
-
-pub slice_bounds-all-end : goal.slice_bounds-all-end
-slice_bounds-all-end g c =
-    let f = c.args.self.now in
-    omega (arith, few_slots f.sides.height f.sides.width (kept f).sides)
+pub returns-then-not-is_for-clause-ordered : goal.returns-then-not-is_for-clause-ordered
+returns-then-not-is_for-clause-ordered g c =
+    let wrong = subst (λ (k : ℕ). RuleFor k (g.R.Rule.meaning c.args.rule.now) → ⊥) c.slots-slots.ensures c.if-not-is_for.ensures in (
+      OrderRefused.wrong_rule c.if-not-is_at_rest.ensures (omega arith)
+          (clean_whole c.args.marks.now _ c.slots-slots.result c.slots-slots.ensures (omega arith) c.if-not-are_clean.ensures)
+          c.if-not-stands.ensures
+          wrong,
+      refl,
+    )
 
 pub make_plan-requires : goal.make_plan-requires
 make_plan-requires g c =
     let f = c.args.self.now in
-    let n = slot_count f.sides.height f.sides.width in
     let starts = c.write_starts.new.starts in
-    let room : n ≤ length c.args.marks.now = omega arith in
-    let same : c.slots-slots.result - 0 ≡ n = omega arith in
-    let long : length starts ≡ n = search rules in
-    let clean = clean_whole c.args.marks.now n (c.slots-slots.result - 0) same room c.if-not-are_clean.ensures in
+    let many = f.many in
+    let few = few_slots f.sides.height f.sides.width (kept f).sides in
+    let long : length starts ≡ slot_count f.sides.height f.sides.width = c.write_starts.auto.starts ∙ simp length-take (omega (arith, few)) in
+    let clean = clean_whole c.args.marks.now _ c.slots-slots.result c.slots-slots.ensures (omega arith) c.if-not-are_clean.ensures in
     let here : (x : ℕ) → x < length (vec_items f.routes) → (route_at starts x).start ≡ present f.steps_done (route_at (vec_items f.routes) x) =
     subst
     (λ (rs : List Route). (x : ℕ) → x < length rs → (route_at starts x).start ≡ present f.steps_done (route_at rs x))
@@ -99,8 +63,8 @@ make_plan-requires g c =
       starts = starts_in_slots f starts long here;
     }
 
-pub returns-in-Made : goal.returns-in-Made
-returns-in-Made g c =
+pub returns-in-Made-clause-ordered : goal.returns-in-Made-clause-ordered
+returns-in-Made-clause-ordered g c =
     let f = c.args.self.now in
     let h = f.sides.height in
     let w = f.sides.width in
@@ -110,9 +74,8 @@ returns-in-Made g c =
     let starts = c.write_starts.new.starts in
     let routes = c.make_plan.new.routes in
     let after = c.take_on.new.self in
-    let room : n ≤ length c.args.marks.now = omega arith in
-    let same : c.slots-slots.result - 0 ≡ n = omega arith in
-    let long : length starts ≡ n = search rules in
+    let few = few_slots h w (kept f).sides in
+    let long : length starts ≡ n = c.write_starts.auto.starts ∙ simp length-take (omega (arith, few)) in
     let here : (x : ℕ) → x < length (vec_items f.routes) → (route_at starts x).start ≡ present f.steps_done (route_at (vec_items f.routes) x) =
     subst
     (λ (rs : List Route). (x : ℕ) → x < length rs → (route_at starts x).start ≡ present f.steps_done (route_at rs x))
@@ -125,39 +88,26 @@ returns-in-Made g c =
     ap (λ (s : Sides). plan_of s.height s.width (vec_items after.routes)) c.take_on.ensures.sides
     ∙ ap (λ (rs : List Route). plan_of h w rs) c.take_on.ensures.routes in
     record {
-      ordered = record {
-        at_rest = c.if-not-is_at_rest.ensures;
-        enough = room;
-        clean = clean_whole c.args.marks.now n (c.slots-slots.result - 0) same room c.if-not-are_clean.ensures;
-        stands = c.if-not-stands.ensures;
-        rule_for = subst (λ (k : ℕ). RuleFor k r) c.slots-slots.ensures c.if-not-is_for.ensures;
-        height = ap (λ (s : Sides). s.height) c.take_on.ensures.sides;
-        width = ap (λ (s : Sides). s.width) c.take_on.ensures.sides;
-        planned = subst (λ (p : Plan). Planned r h w v.square p) (sym plan-same) planned;
-        answer = c.total.ensures.whole (plan_in after) (staged after);
-        length = sym c.total.ensures.sum;
-        done = c.take_on.ensures.done;
-        orders = c.take_on.ensures.orders;
-      };
-      refused = tt;
-      marks = c.in-Made.ensures.marks;
+      at_rest = c.if-not-is_at_rest.ensures;
+      enough = omega arith;
+      clean = clean_whole c.args.marks.now n c.slots-slots.result c.slots-slots.ensures (omega arith) c.if-not-are_clean.ensures;
+      stands = c.if-not-stands.ensures;
+      rule_for = subst (λ (k : ℕ). RuleFor k r) c.slots-slots.ensures c.if-not-is_for.ensures;
+      height = ap (λ (s : Sides). s.height) c.take_on.ensures.sides;
+      width = ap (λ (s : Sides). s.width) c.take_on.ensures.sides;
+      planned = subst (λ (p : Plan). Planned r h w v.square p) (sym plan-same) planned;
+      answer = c.total.ensures.whole (plan_in after) after.staged;
+      length = sym c.total.ensures.sum;
+      done = c.take_on.ensures.done;
+      orders = c.take_on.ensures.orders;
     }
 
-pub returns-in-Unfillable : goal.returns-in-Unfillable
-returns-in-Unfillable g c =
-    let f = c.args.self.now in
-    let n = slot_count f.sides.height f.sides.width in
-    let room : n ≤ length c.args.marks.now = omega arith in
-    let same : c.slots-slots.result - 0 ≡ n = omega arith in
-    record {
-      ordered = (
-        OrderRefused.unfillable c.if-not-is_at_rest.ensures room
-            (clean_whole c.args.marks.now n (c.slots-slots.result - 0) same room c.if-not-are_clean.ensures)
-            c.if-not-stands.ensures
-            (subst (λ (k : ℕ). RuleFor k (g.R.Rule.meaning c.args.rule.now)) c.slots-slots.ensures c.if-not-is_for.ensures)
-            (λ x. c.in-Unfillable.ensures.answer.1.none x.0 x.1),
-        refl,
-      );
-      refused = refl;
-      marks = c.in-Unfillable.ensures.marks;
-    }
+pub returns-in-Unfillable-clause-ordered : goal.returns-in-Unfillable-clause-ordered
+returns-in-Unfillable-clause-ordered g c = (
+  OrderRefused.unfillable c.if-not-is_at_rest.ensures (omega arith)
+      (clean_whole c.args.marks.now _ c.slots-slots.result c.slots-slots.ensures (omega arith) c.if-not-are_clean.ensures)
+      c.if-not-stands.ensures
+      (subst (λ (k : ℕ). RuleFor k (g.R.Rule.meaning c.args.rule.now)) c.slots-slots.ensures c.if-not-is_for.ensures)
+      (λ x. c.in-Unfillable.ensures.answer.1.none x.0 x.1),
+  refl,
+)

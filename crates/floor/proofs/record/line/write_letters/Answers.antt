@@ -1,4 +1,4 @@
-use Rattle.std.proofs.Common.{ℕ, length, arith}
+use Rattle.std.proofs.Common.{ℕ, length, arith, rules}
 use Rattle.grid.specs.Headings.{letter}
 use Rattle.course.specs.Routes.{plan_of}
 use Rattle.course.specs.Stages.{motion_of}
@@ -8,5 +8,6 @@ use Rattle.floor.proofs.record.line.write_letters.Goals as goal
 pub returns : goal.returns
 returns c h w =
     let routes = c.args.routes.now in
-    let f : ℕ → ℕ = λ k. letter ((motion_of c.args.stage (plan_of h w routes)).heading c.args.progress k) in
-    row_ended f c.loop-c.out (length routes) 10 (omega arith) (λ k l. c.loop-c.invariant h w k (omega arith))
+    let moment = c.args.moment in
+    let f : ℕ → ℕ = λ k. letter ((motion_of moment.stage (plan_of h w routes)).heading moment.progress k) in
+    row_ended f c.write_each.new.out (length routes) 10 (omega arith) (λ k l. let e = c.write_each.ensures k 0 l in search rules)

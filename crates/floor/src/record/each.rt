@@ -1,0 +1,18 @@
+// Writing for each carrier what its route is asked.
+ghost use Rattle.std.specs.Prelude.{ℕ, ◌<◌, ◌≤◌, length, slice_index_or};
+ghost use Rattle.std.specs.Fn.{FnReturnsAt};
+ghost use Rattle.course.specs.Routes.{route_at};
+
+use course::route::Route;
+
+// Writes what each route is asked at its carrier's place.
+pub(super) fn write_each<T: Copy, F: Fn(&Route) -> T>(routes: &[Route], out: &mut [T], ask: F)
+    requires callable { F.IsAlwaysCallable ask }
+    requires room { length routes.now ≤ length out.old }
+    ensures { (carrier : ℕ) (default : T) → carrier < length routes.now → FnReturnsAt F.Fn ask (route_at routes.now carrier) (slice_index_or out.new carrier default) }
+{
+    // Kept as it is: of a loop over `out.iter_mut().zip(routes)` no proof knows what it wrote.
+    for (carrier, route) in routes.iter().enumerate() {
+        out[carrier] = ask(route);
+    }
+}
