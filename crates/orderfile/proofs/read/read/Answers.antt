@@ -1,4 +1,4 @@
-use Rattle.std.proofs.Common.{ℕ, ◌+◌, ◌*◌, List, ap, ◌∙◌, subst}
+use Rattle.std.proofs.Common.{◌≡◌, ℕ, ◌+◌, ◌*◌, List, length, ap, ◌∙◌, subst, arith}
 use Rattle.std.proofs.lemmas.List.{take_rest}
 use Rattle.std.proofs.lemmas.Result.{err_from_is_err_and}
 use Rattle.orderfile.specs.Records.{Lists, GoodEntries}
@@ -13,7 +13,8 @@ returns-in_err-rule-clause-read c =
     let bytes = c.args.bytes.now in
     let n = c.slots-slots.result in
     let name = c.in_ok-sides.field-0.rule in
-    let long = c.if-bytes-entry_size.false ∙ ap (λ (k : ℕ). 7 + k * n) c.entry_size.ensures in
+    let whole : length bytes ≡ 7 + c.entry_size.result * n = omega arith in
+    let long = whole ∙ ap (λ (k : ℕ). 7 + k * n) c.entry_size.ensures in
     let p = err_from_is_err_and c.from_residual-in_err-rule.result c.from_residual-in_err-rule.ensures.1 in
     let fault = c.in_err-rule.field-0.0 in
     let why = subst (λ (body : List ℕ). (l : Lists) × Held name n body l × Unmade l fault) (take_rest bytes 7) c.in_err-rule.ensures in
@@ -24,7 +25,8 @@ returns c =
     let bytes = c.args.bytes.now in
     let n = c.slots-slots.result in
     let h = c.in_ok-sides.field-0 in
-    let long = c.if-bytes-entry_size.false ∙ ap (λ (k : ℕ). 7 + k * n) c.entry_size.ensures in
+    let whole : length bytes ≡ 7 + c.entry_size.result * n = omega arith in
+    let long = whole ∙ ap (λ (k : ℕ). 7 + k * n) c.entry_size.ensures in
     let l = rule_lists c.in_ok-rule.rule in
     let held = subst (λ (body : List ℕ). Held h.rule n body l × GoodEntries l) (take_rest bytes 7) c.in_ok-rule.ensures in
     let good = order_good bytes _ _ h.rule n c.in_ok-sides.ensures c.slots-slots.ensures long l (h.sides.tall, h.sides.wide) held.0 held.1 in
