@@ -1,7 +1,7 @@
 use Rattle.std.proofs.Common.{◌≡◌, ◌+◌, ◌-◌, ◌++◌, length, drop, ap, ◌∙◌, arith}
 use Rattle.std.proofs.lemmas.List.{append-nil, drop_all, length-append, length-drop}
 use Rattle.orderfile.proofs.Writing.{placed}
-use Rattle.orderfile.proofs.write.write_kinds_and_masks.Goals as goal
+use Rattle.orderfile.proofs.lists.write_kinds_and_masks.Goals as goal
 
 pub returns : goal.returns
 returns c =
