@@ -4,6 +4,7 @@ ghost use Rattle.motion.specs.Runs.{turn_heading};
 ghost use Rattle.motion.specs.Plans.{Plan, whole};
 ghost use Rattle.course.specs.Routes.{HasRoute};
 ghost use Rattle.course.specs.Stages.{motion_of, Staged};
+ghost use Rattle.course.specs.Upright.{run_from, run_to};
 
 use crate::run::{Run, turn_square};
 use crate::stage::{Moment, Stage, Stages};
@@ -25,11 +26,14 @@ impl Route {
         ensures { (p : Plan) (c : ℕ) → HasRoute p c self.now → result ≡ (motion_of moment.stage p).heading moment.progress c }
     {
         let Moment { stage, progress } = moment;
-        let upright = match stage {
-            Stage::FirstColumns => self.first_columns().heading(progress),
-            Stage::Rows => self.rows().heading(progress),
-            Stage::LastColumns => self.last_columns().heading(progress),
-            Stage::Turn | Stage::TurnBack => self.turns(progress),
+        let run = self.run(stage);
+        let upright = match (stage, progress) {
+            (Stage::Turn | Stage::TurnBack, p) => self.turns(p),
+            (_, _) if run.is_still() => Heading::Stay,
+            (_, 0) => run.aside(),
+            (_, p) if p <= run.distance() => run.along(),
+            (_, p) if p == run.distance() + 1 => run.back(),
+            (_, _) => Heading::Stay,
         };
         stage.on_deck(upright)
     }
@@ -78,6 +82,22 @@ impl Route {
         ensures { (p : Plan) (c : ℕ) → HasRoute p c self.now → Staged p stages.now → result ≡ (whole p).place step c }
     {
         self.place(stages.at(step))
+    }
+
+    // The stage's run, seen upright; in a turn there is none, so nowhere to go.
+    fn run(&self, stage: Stage) -> Run
+        ensures from { result.from ≡ run_from stage self.now }
+        ensures to { result.to ≡ run_to stage self.now }
+    {
+        match stage {
+            Stage::FirstColumns => self.first_columns(),
+            Stage::Rows => self.rows(),
+            Stage::LastColumns => self.last_columns(),
+            Stage::Turn | Stage::TurnBack => {
+                let row = u16::from(self.middle_row);
+                Run { from: row, to: row }
+            }
+        }
     }
 
     fn first_columns(&self) -> Run

@@ -1,6 +1,6 @@
-ghost use Rattle.std.specs.Prelude.{◌≡◌, if◌then◌else◌, nat_lt};
+ghost use Rattle.std.specs.Prelude.{◌≡◌, if◌then◌else◌, ◌==◌, nat_lt};
 ghost use Rattle.grid.specs.declared.heading.Heading.TheVariants.{Up, Right, Down, Left};
-ghost use Rattle.motion.specs.Runs.{away, run_square, run_heading, turn_square};
+ghost use Rattle.motion.specs.Runs.{away, run_square, turn_square};
 
 use grid::heading::Heading;
 use grid::square::Square;
@@ -13,18 +13,11 @@ pub struct Run {
 }
 
 impl Run {
-    // The heading in the step after `progress` steps of the run.
-    pub fn heading(self, progress: usize) -> Heading
-        ensures { result ≡ run_heading self.from self.to progress }
+    // Whether it has nowhere to go.
+    pub fn is_still(self) -> bool
+        ensures { result ≡ (self.from == self.to) }
     {
-        let way = self.distance();
-        match progress {
-            _ if way == 0 => Heading::Stay,
-            0 => self.aside(),
-            p if p <= way => self.along(),
-            p if p == way + 1 => self.back(),
-            _ => Heading::Stay,
-        }
+        self.from == self.to
     }
 
     // The square after `progress` steps of the run in a line.
@@ -50,14 +43,14 @@ impl Run {
     }
 
     // How far it goes.
-    fn distance(self) -> usize
+    pub fn distance(self) -> usize
         ensures { result ≡ away self.from self.to }
     {
         usize::from(self.from.abs_diff(self.to))
     }
 
     // The heading along the line.
-    fn along(self) -> Heading
+    pub fn along(self) -> Heading
         ensures { result ≡ (if nat_lt self.to self.from then Up else Down) }
     {
         if self.to < self.from {
@@ -68,14 +61,14 @@ impl Run {
     }
 
     // The heading out of the middle column: the one along the line, with rows and columns exchanged.
-    fn aside(self) -> Heading
+    pub fn aside(self) -> Heading
         ensures { result ≡ (if nat_lt self.to self.from then Left else Right) }
     {
         self.along().turned()
     }
 
     // The heading back into the middle column.
-    fn back(self) -> Heading
+    pub fn back(self) -> Heading
         ensures { result ≡ (if nat_lt self.to self.from then Right else Left) }
     {
         self.aside().opposite()
