@@ -44,14 +44,11 @@ fn write_starts(routes: &[Route], done: usize, starts: &mut [Route])
     requires { length starts.old ≡ length routes.now }
     ensures { (c : ℕ) → c < length routes.now → (route_at starts.new c).start ≡ present done (route_at routes.now c) }
 {
-    write_each(
-        routes,
-        starts,
-        |route| Route {
-            start: present_slot(route, done),
-            ..NOWHERE
-        },
-    );
+    let start = |route: &Route| Route {
+        start: present_slot(route, done),
+        ..NOWHERE
+    };
+    write_each(routes, starts, start);
 }
 
 impl Floor {

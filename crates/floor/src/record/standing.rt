@@ -26,8 +26,8 @@ fn are_at<D: Deck>(deck: &D, routes: &[Route], moment: Moment) -> bool
     requires { (D.Deck.view deck.now).carriers ≡ length routes.now }
     ensures { (h w : ℕ) → MatchBool result (Placed (D.Deck.view deck.now) (length routes.now) ((motion_of moment.stage (plan_of h w routes.now)).place moment.progress)) (Placed (D.Deck.view deck.now) (length routes.now) ((motion_of moment.stage (plan_of h w routes.now)).place moment.progress) → ⊥) }
 {
-    routes.iter().enumerate().all(|(carrier, route)| deck.place(carrier)
-        == Some(route.place(moment)))
+    let mut carriers = routes.iter().enumerate();
+    carriers.all(|(carrier, route)| deck.place(carrier) == Some(route.place(moment)))
 }
 
 impl Floor {
