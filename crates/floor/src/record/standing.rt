@@ -1,7 +1,7 @@
 // Whether a deck stands as the record says.
 ghost use Rattle.std.specs.Prelude.{◌≡◌, ℕ, length, MatchBool};
 ghost use Rattle.course.specs.Routes.{plan_of};
-ghost use Rattle.course.specs.Stages.{motion_of};
+ghost use Rattle.course.specs.Stages.{place_when};
 ghost use Rattle.chain.specs.Floors.{Sized, Stands};
 ghost use Rattle.floor.specs.Shown.{shown};
 ghost use Rattle.floor.specs.Standing.{Placed};
@@ -24,7 +24,7 @@ pub(super) fn is_sized<D: Deck>(deck: &D, sides: Sides) -> bool
 // Whether each carrier is where its route has it at a moment.
 fn are_at<D: Deck>(deck: &D, routes: &[Route], moment: Moment) -> bool
     requires { (D.Deck.view deck.now).carriers ≡ length routes.now }
-    ensures { (h w : ℕ) → MatchBool result (Placed (D.Deck.view deck.now) (length routes.now) ((motion_of moment.stage (plan_of h w routes.now)).place moment.progress)) (Placed (D.Deck.view deck.now) (length routes.now) ((motion_of moment.stage (plan_of h w routes.now)).place moment.progress) → ⊥) }
+    ensures { (h w : ℕ) → MatchBool result (Placed (D.Deck.view deck.now) (length routes.now) (place_when moment (plan_of h w routes.now))) (Placed (D.Deck.view deck.now) (length routes.now) (place_when moment (plan_of h w routes.now)) → ⊥) }
 {
     let mut carriers = routes.iter().enumerate();
     carriers.all(|(carrier, route)| deck.place(carrier) == Some(route.place(moment)))
