@@ -1,4 +1,3 @@
-pub mod Places
 pub mod Shown
 pub mod Standing
 pub mod Moving
