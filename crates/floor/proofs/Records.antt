@@ -1,5 +1,5 @@
 -- What every floor record gives.
-use Rattle.std.proofs.Common.{◌≡◌, ℕ, ◌<◌, ◌≤◌, Bool, true, false, List, length, get_or, vec_items, MatchBool, sym, refl, ap, ◌∙◌, subst, mul-le-mul, mul-le-mul_left, arith}
+use Rattle.std.proofs.Common.{◌≡◌, ℕ, ◌<◌, ◌≤◌, Bool, true, false, List, length, get_or, vec_items, sym, refl, ap, ◌∙◌, subst, mul-le-mul, mul-le-mul_left, arith}
 use Rattle.grid.specs.declared.heading.Heading.{Heading}
 use Rattle.grid.specs.declared.heading.Heading.TheVariants.{Stay}
 use Rattle.grid.specs.Sides.{greatest_side, GoodSides, slot_count}
@@ -12,6 +12,7 @@ use Rattle.course.specs.Stages.{motion_of, place_when, heading_when, Alike}
 use Rattle.chain.specs.Floors.{Sized, Stands}
 use Rattle.floor.specs.Shown.{shown, plan_in}
 use Rattle.floor.specs.Standing.{Placed}
+use Rattle.floor.specs.Telling.{Tells}
 use Rattle.floor.specs.Moving.{way_heading}
 use Rattle.floor.specs.declared.record.Floor.{Floor}
 use Rattle.floor.specs.declared.record.moves.Way.{Way}
@@ -29,7 +30,7 @@ unchanged v =
       ready = refl;
     }
 
-pub when_same : (b : Bool) {A B : Type 0} → (A → B) → (B → A) → MatchBool b A (A → ⊥) → MatchBool b B (B → ⊥)
+pub when_same : (b : Bool) {A B : Type 0} → (A → B) → (B → A) → Tells b A → Tells b B
 when_same true f g a = f a
 when_same false f g n = λ b. n (g b)
 
@@ -39,17 +40,14 @@ pub stands_when :
     → routes ≡ vec_items f.routes
     → Sized f.sides.height f.sides.width v
     → Alike (whole (plan_in f)) f.steps_done (motion_of m.stage (plan_in f)) m.progress
-    → ((h w : ℕ)
-    → MatchBool b (Placed v (length routes) (place_when m (plan_of h w routes)))
-    (Placed v (length routes) (place_when m (plan_of h w routes)) → ⊥))
-    → MatchBool b (Stands (shown f) v) (Stands (shown f) v → ⊥)
+    → ((h w : ℕ) → Tells b (Placed v (length routes) (place_when m (plan_of h w routes))))
+    → Tells b (Stands (shown f) v)
 stands_when b f v routes m same sized alike w =
     let items = vec_items f.routes in
     let many = f.many in
     let P : List Route → Type 0 =
     λ rs. Placed v (length rs) (place_when m (plan_of f.sides.height f.sides.width rs)) in
-    let here : MatchBool b (P items) (P items → ⊥) =
-    subst (λ (rs : List Route). MatchBool b (P rs) (P rs → ⊥)) same (w f.sides.height f.sides.width) in
+    let here : Tells b (P items) = subst (λ (rs : List Route). Tells b (P rs)) same (w f.sides.height f.sides.width) in
     when_same b {A = P items} {B = Stands (shown f) v}
     (λ p. record { sized = sized; placed = λ c l. p c (omega arith) ∙ sym (alike.place c) })
     (λ s c l. s.placed c (omega arith) ∙ alike.place c)

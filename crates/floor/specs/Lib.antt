@@ -4,3 +4,4 @@ pub mod Moving
 pub mod Resting
 pub mod Present
 pub mod Lines
+pub mod Telling
