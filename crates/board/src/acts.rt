@@ -6,10 +6,8 @@ ghost use Rattle.board.specs.Boards.{board_view, board_sound, with_ready};
 use crate::Board;
 use deck::Deck;
 use deck::fault::DeckFault;
-use decklists::moves;
 use grid::heading::Heading;
 use grid::square::Square;
-use std::mem::swap;
 
 impl Board {
     // Opens the contact, and nothing else: the board is not ready.
@@ -30,10 +28,8 @@ impl Board {
     pub fn standing_on(&self, square: Square) -> Option<usize>
         ensures { MatchOption result ((k : ℕ) → k < (board_view self.now).carriers → (board_view self.now).square k ≢ square) (λ k. (k < (board_view self.now).carriers) × ((board_view self.now).square k ≡ square)) }
     {
-        if square.row >= self.extent.rows || square.column >= self.extent.columns {
-            return None;
-        }
-        self.standing[self.extent.number(square)]
+        let number = self.carriers.number(square)?;
+        self.standing[number]
     }
 }
 
@@ -43,15 +39,15 @@ impl Deck for Board {
     ghost sound = { board_sound };
 
     fn rows(&self) -> usize {
-        self.extent.rows
+        self.carriers.rows()
     }
 
     fn columns(&self) -> usize {
-        self.extent.columns
+        self.carriers.columns()
     }
 
     fn carriers(&self) -> usize {
-        self.squares.len()
+        self.carriers.carriers()
     }
 
     fn is_ready(&self) -> bool {
@@ -59,26 +55,18 @@ impl Deck for Board {
     }
 
     fn place(&self, carrier: usize) -> Option<Square> {
-        if carrier < self.squares.len() {
-            Some(self.squares[carrier])
-        } else {
-            None
-        }
+        self.carriers.place(carrier)
     }
 
     fn heading(&self, carrier: usize) -> Option<Heading> {
-        if carrier < self.headings.len() {
-            Some(self.headings[carrier])
-        } else {
-            None
-        }
+        self.carriers.heading(carrier)
     }
 
     fn steer(&mut self, carrier: usize, heading: u8) -> Result<(), DeckFault>
         ensures steered { Steered (board_view self.old) carrier heading result (board_view self.new) }
         ensures closed_unchanged { self.new.closed ≡ self.old.closed }
     {
-        moves::steer_one(&mut self.headings, carrier, heading)
+        self.carriers.steer(carrier, heading)
     }
 
     fn go(&mut self) -> Result<(), DeckFault>
@@ -86,20 +74,11 @@ impl Deck for Board {
         ensures closed_unchanged { self.new.closed ≡ self.old.closed }
     {
         if !self.closed {
-            moves::rest_all(&mut self.headings);
+            self.carriers.halt();
             return Err(DeckFault::NotReady);
         }
-        match moves::go(
-            self.extent,
-            &mut self.squares,
-            &mut self.headings,
-            &mut self.coming,
-        ) {
-            Ok(_) => {
-                swap(&mut self.standing, &mut self.coming);
-                Ok(())
-            }
-            Err(fault) => Err(fault),
-        }
+        self.carriers.go()?;
+        self.carriers.swap_notes(&mut self.standing);
+        Ok(())
     }
 }

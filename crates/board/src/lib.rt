@@ -5,33 +5,21 @@
 #![tactic(auto)]
 
 ghost use Rattle.std.specs.Prelude.{◌≡◌, ◌*◌, length};
-ghost use Rattle.decklists.specs.Lists.{placed, Inside, Apart};
-ghost use Rattle.decklists.specs.Notes.{EachNoted, NobodyElse, NowhereElse};
+ghost use Rattle.decklists.specs.Carriers.{carriers_view};
+ghost use Rattle.decklists.specs.Notes.{PlacesNoted};
 
-use decklists::extent::Extent;
-use grid::heading::Heading;
-use grid::square::Square;
+use decklists::carriers::Carriers;
 
 pub mod acts;
 pub mod build;
 
 #[derive(Drop)]
 pub struct Board {
-    extent: Extent,
+    // Where each carrier stands, so that nobody has to look for it.
+    carriers: Carriers,
     // Which carrier stands on each square.
     standing: Vec<Option<usize>>,
-    // Who comes to each square, written anew by each go.
-    coming: Vec<Option<usize>>,
-    // Where each carrier stands, so that nobody has to look for it.
-    squares: Vec<Square>,
-    headings: Vec<Heading>,
     closed: bool,
-    ghost level: { length headings.items ≡ length squares.items },
-    ghost room: { length standing.items ≡ extent.columns * extent.rows },
-    ghost spare: { length coming.items ≡ extent.columns * extent.rows },
-    ghost inside: { Inside extent squares.items },
-    ghost apart: { Apart squares.items },
-    ghost each: { EachNoted extent.columns (length squares.items) (placed squares.items) standing.items },
-    ghost known: { NobodyElse (length squares.items) standing.items },
-    ghost single: { NowhereElse extent.columns (placed squares.items) standing.items },
+    ghost room: { length standing.items ≡ (carriers_view carriers).columns * (carriers_view carriers).rows },
+    ghost noted: { PlacesNoted (carriers_view carriers) standing.items },
 }

@@ -22,11 +22,7 @@ fn steer_all<D: Deck>(deck: &mut D, headings: &[Heading])
 fn heading_of(headings: &[Heading], carrier: usize) -> Heading
     ensures { result ≡ slice_index_or headings.now carrier Stay }
 {
-    if carrier < headings.len() {
-        headings[carrier]
-    } else {
-        Heading::Stay
-    }
+    headings.get(carrier).copied().unwrap_or(Heading::Stay)
 }
 
 // Steers every carrier by the list and goes; refuses a list longer than there are carriers.

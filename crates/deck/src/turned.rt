@@ -55,25 +55,17 @@ impl<D: Deck> Deck for Turned<D> {
     }
 
     fn place(&self, carrier: usize) -> Option<Square> {
-        match self.below.place(carrier) {
-            Some(square) => Some(square.turned()),
-            None => None,
-        }
+        self.below.place(carrier).map(Square::turned)
     }
 
     fn heading(&self, carrier: usize) -> Option<Heading> {
-        match self.below.heading(carrier) {
-            Some(heading) => Some(heading.turned()),
-            None => None,
-        }
+        self.below.heading(carrier).map(Heading::turned)
     }
 
     // A number of no heading is handed on, for the deck below to refuse in its order.
     fn steer(&mut self, carrier: usize, heading: u8) -> Result<(), DeckFault> {
-        match Heading::from_number(heading) {
-            Some(known) => self.below.steer(carrier, known.turned().number()),
-            None => self.below.steer(carrier, heading),
-        }
+        let below = Heading::try_from(heading).map_or(heading, |known| known.turned().number());
+        self.below.steer(carrier, below)
     }
 
     fn go(&mut self) -> Result<(), DeckFault> {

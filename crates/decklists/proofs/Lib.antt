@@ -1,5 +1,4 @@
 pub mod Placing
 pub mod Noting
 pub mod Moving
-pub mod Keeping
 pub mod Starting

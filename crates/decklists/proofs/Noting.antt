@@ -1,5 +1,5 @@
 -- One more carrier is noted in a table.
-use Rattle.std.proofs.Common.{◌≡◌, ℕ, ◌+◌, ◌<◌, List, length, get_or, set, Some, None, Option, sym, ap, ◌∙◌, ⊎_elim, arith, MatchOption}
+use Rattle.std.proofs.Common.{true, false, is_some, refl, ◌≡◌, ℕ, ◌+◌, ◌<◌, List, length, get_or, set, Some, None, Option, sym, ap, ◌∙◌, ⊎_elim, arith, MatchOption}
 use Rattle.std.proofs.lemmas.List.{get_or-set_same, get_or-set_other}
 use Rattle.std.proofs.lemmas.Bool.{cases_eq}
 use Rattle.grid.specs.declared.square.Square.{Square}
@@ -11,6 +11,15 @@ some_is j k e = cc
 
 nobody : (k : ℕ) → ◌≡◌ {A = Option ℕ} None (Some k) → ⊥
 nobody k e = let z : ◌≡◌ {A = ℕ} 0 1 = cc in omega arith
+
+-- what a look at a place of the table tells
+pub some_noted : (o : Option ℕ) → is_some o ≡ true → (j : ℕ) × (o ≡ Some j)
+some_noted None e = cc
+some_noted (Some j) e = (j, refl)
+
+pub none_noted : (o : Option ℕ) → is_some o ≡ false → (k : ℕ) → o ≡ Some k → ⊥
+none_noted None e k q = nobody k q
+none_noted (Some j) e k q = let z : ◌≡◌ {A = ℕ} 0 1 = cc in omega arith
 
 module _ (columns : ℕ) (at : ℕ → Square) (table : List (Option ℕ)) where
   pub noted_none : ((p : ℕ) → get_or table p None ≡ None) → Noted columns 0 at table

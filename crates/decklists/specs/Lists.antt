@@ -1,34 +1,34 @@
--- A deck kept as a list of squares and a list of headings, by carrier.
+-- A deck kept as a list of carriers.
 use Rattle.std.specs.Prelude.{ℕ, ◌<◌, Bool, List, length, ◌≢◌, slice_index_or}
-use Rattle.grid.specs.declared.heading.Heading.{Heading}
 use Rattle.grid.specs.declared.heading.Heading.TheVariants.{Stay}
 use Rattle.grid.specs.declared.square.Square.{Square}
 use Rattle.grid.specs.Squares.{square, OnFloor}
 use Rattle.deck.specs.Decks.{DeckView}
+use Rattle.decklists.specs.declared.carrier.Carrier.{Carrier}
 use Rattle.decklists.specs.declared.extent.Extent.{Extent}
 
--- what is read past the end of a list of squares; it never counts
-abbrev pub corner : Square
-corner = square 0 0
+-- what is read past the end of a list of carriers; it never counts
+abbrev pub nobody : Carrier
+nobody = record { square = square 0 0; heading = Stay }
 
 -- where each carrier stands
-abbrev pub placed : List Square → ℕ → Square
-placed ss k = slice_index_or ss k corner
+abbrev pub placed : List Carrier → ℕ → Square
+placed cs k = (slice_index_or cs k nobody).square
 
-abbrev pub listed : Extent → List Square → List Heading → Bool → DeckView
-listed e ss hs ready = record {
+abbrev pub listed : Extent → List Carrier → Bool → DeckView
+listed e cs ready = record {
   rows = e.rows;
   columns = e.columns;
-  carriers = length ss;
-  square = placed ss;
-  heading = λ k. slice_index_or hs k Stay;
+  carriers = length cs;
+  square = placed cs;
+  heading = λ k. (slice_index_or cs k nobody).heading;
   ready = ready;
 }
 
--- all squares lie on the floor
-abbrev pub Inside : Extent → List Square → Type 0
-Inside e ss = (k : ℕ) → k < length ss → OnFloor e.rows e.columns (slice_index_or ss k corner)
+-- all carriers stand on the floor
+abbrev pub Inside : Extent → List Carrier → Type 0
+Inside e cs = (k : ℕ) → k < length cs → OnFloor e.rows e.columns (placed cs k)
 
--- no two squares are one
-abbrev pub Apart : List Square → Type 0
-Apart ss = (j k : ℕ) → j < k → k < length ss → slice_index_or ss j corner ≢ slice_index_or ss k corner
+-- no two carriers stand on one square
+abbrev pub Apart : List Carrier → Type 0
+Apart cs = (j k : ℕ) → j < k → k < length cs → placed cs j ≢ placed cs k

@@ -1,6 +1,7 @@
 -- Tables over the squares of a floor, which note a carrier on some of them.
 use Rattle.std.specs.Prelude.{◌≡◌, ℕ, ◌+◌, ◌*◌, ◌<◌, List, Some, None, Option, slice_index_or}
 use Rattle.grid.specs.declared.square.Square.{Square}
+use Rattle.deck.specs.Decks.{DeckView, end}
 
 -- the number of a square, counted row by row
 abbrev pub square_number : ℕ → Square → ℕ
@@ -22,3 +23,11 @@ pub record Noted (columns n : ℕ) (at : ℕ → Square) (table : List (Option �
   pub each : EachNoted columns n at table
   pub nobody_else : NobodyElse n table
   pub nowhere_else : NowhereElse columns at table
+
+-- the table says which carrier comes to each square
+abbrev pub EndsNoted : DeckView → List (Option ℕ) → Type 0
+EndsNoted v table = Noted v.columns v.carriers (end v) table
+
+-- the table says which carrier stands on each square
+abbrev pub PlacesNoted : DeckView → List (Option ℕ) → Type 0
+PlacesNoted v table = Noted v.columns v.carriers v.square table

@@ -6,7 +6,7 @@ use grid::heading::Heading;
 use grid::square::Square;
 
 // How many rows and columns of squares a deck has.
-#[derive(Clone, Copy)]
+#[derive(Clone, Copy, PartialEq, Eq, Debug)]
 pub struct Extent {
     pub rows: usize,
     pub columns: usize,
@@ -15,14 +15,13 @@ pub struct Extent {
 impl Extent {
     // A carrier on that square with that heading remains on the floor.
     pub fn remains(self, square: Square, heading: Heading) -> bool
-        requires { OnFloor self.rows self.columns square }
         ensures { MatchBool result (Remains self.rows self.columns square heading) (Remains self.rows self.columns square heading → ⊥) }
     {
         match heading {
             Heading::Stay => true,
             Heading::Up => 0 < square.row,
-            Heading::Right => square.column + 1 < self.columns,
-            Heading::Down => square.row + 1 < self.rows,
+            Heading::Right => square.column < self.columns.saturating_sub(1),
+            Heading::Down => square.row < self.rows.saturating_sub(1),
             Heading::Left => 0 < square.column,
         }
     }

@@ -5,20 +5,17 @@ ghost use Rattle.decklists.specs.Faults.{build_number};
 use std::alloc::AllocError;
 
 // Why a deck is not made.
-#[derive(Clone, Copy)]
+#[derive(Clone, Copy, PartialEq, Eq, Debug)]
 pub enum BuildFault {
-    BadSides,
-    NoMemory,
+    BadSides = 1,
+    NoMemory = 47,
 }
 
 impl BuildFault {
     pub fn number(self) -> u8
         ensures { result ≡ build_number self }
     {
-        match self {
-            BuildFault::BadSides => 1,
-            BuildFault::NoMemory => 47,
-        }
+        self as u8
     }
 }
 

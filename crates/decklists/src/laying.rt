@@ -6,7 +6,7 @@ use grid::sides::Sides;
 use grid::square::Square;
 
 // Which way round a new deck lies: as the floor is read, or with rows and columns exchanged.
-#[derive(Clone, Copy)]
+#[derive(Clone, Copy, PartialEq, Eq, Debug)]
 pub enum Laying {
     Upright,
     Lying,

@@ -1,12 +1,12 @@
-// What decks that keep a list of squares and a list of headings have in common.
+// What decks that keep a list of their carriers have in common.
 //
-// For: the roster and the board, and no others: its functions ask, by their requires, for what the invariants of
-// those two say. Promises: go on such lists answers and leaves what a ready deck's go does, in a fixed number of
-// passes over carriers and squares; the lists of a new deck stand as specs/New.antt says. Rests on: grid, deck.
+// For: the roster and the board, and no others. Promises: carriers are a deck that is always ready; its go is a fixed
+// number of passes over carriers and squares, and after it the notes say who stands where; a new deck stands as
+// specs/New.antt says. Rests on: grid, deck.
 #![tactic(auto)]
 
+pub mod carrier;
+pub mod carriers;
 pub mod extent;
 pub mod fault;
 pub mod laying;
-pub mod moves;
-pub mod start;

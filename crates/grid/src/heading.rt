@@ -1,41 +1,53 @@
-ghost use Rattle.std.specs.Prelude.{◌≡◌, ◌<◌, MatchOption};
-ghost use Rattle.grid.specs.Headings.{heading_number, letter, turned_heading, opposite};
+ghost use Rattle.std.specs.Prelude.{◌≡◌};
+ghost use Rattle.grid.specs.Headings.{Names, heading_number, letter, turned_heading, opposite};
+
+use std::error::Error;
+use std::fmt;
 
 // Which way a carrier goes in the next move, by one square.
-#[derive(Clone, Copy)]
+#[derive(Clone, Copy, PartialEq, Eq, Debug)]
 pub enum Heading {
-    Stay,
-    Up,
-    Right,
-    Down,
-    Left,
+    Stay = 0,
+    Up = 1,
+    Right = 2,
+    Down = 3,
+    Left = 4,
 }
+
+// A number that names no heading.
+#[derive(Clone, Copy, PartialEq, Eq, Debug)]
+pub struct NoHeading;
+
+impl TryFrom<u8> for Heading {
+    type Error = NoHeading;
+
+    ghost try_from_gives = { Names };
+
+    fn try_from(number: u8) -> Result<Heading, NoHeading> {
+        match number {
+            0 => Ok(Heading::Stay),
+            1 => Ok(Heading::Up),
+            2 => Ok(Heading::Right),
+            3 => Ok(Heading::Down),
+            4 => Ok(Heading::Left),
+            _ => Err(NoHeading),
+        }
+    }
+}
+
+impl fmt::Display for NoHeading {
+    fn fmt<W: fmt::Write>(&self, f: &mut fmt::Formatter<W>) -> fmt::Result {
+        f.write_str("no heading has this number")
+    }
+}
+
+impl Error for NoHeading {}
 
 impl Heading {
     pub fn number(self) -> u8
         ensures { result ≡ heading_number self }
     {
-        match self {
-            Heading::Stay => 0,
-            Heading::Up => 1,
-            Heading::Right => 2,
-            Heading::Down => 3,
-            Heading::Left => 4,
-        }
-    }
-
-    // The heading of a number, if it is the number of one.
-    pub fn from_number(number: u8) -> Option<Heading>
-        ensures { MatchOption result (4 < number) (λ h. heading_number h ≡ number) }
-    {
-        match number {
-            0 => Some(Heading::Stay),
-            1 => Some(Heading::Up),
-            2 => Some(Heading::Right),
-            3 => Some(Heading::Down),
-            4 => Some(Heading::Left),
-            _ => None,
-        }
+        self as u8
     }
 
     // The letter that stands for it in a script.

@@ -1,5 +1,8 @@
-ghost use Rattle.std.specs.Prelude.{◌≡◌, ◌*◌, MatchOption};
+ghost use Rattle.std.specs.Prelude.{◌≡◌, ◌*◌, ◌<◌, ◌≤◌, MatchOption};
 ghost use Rattle.grid.specs.Sides.{GoodSide, GoodSides, row_count, column_count, slot_count};
+ghost use Rattle.grid.specs.Slots.{numbered_slot};
+
+use crate::slot::Slot;
 
 // The greatest number of cells along a side.
 pub const GREATEST_SIDE: usize = 16;
@@ -8,7 +11,7 @@ pub const GREATEST_SIDE: usize = 16;
 pub const GREATEST_SLOTS: usize = 3 * GREATEST_SIDE * GREATEST_SIDE;
 
 // A floor's sides: cells down and cells across. A cell is 3 by 3 squares.
-#[derive(Clone, Copy)]
+#[derive(Clone, Copy, PartialEq, Eq, Debug)]
 pub struct Sides {
     pub height: usize,
     pub width: usize,
@@ -46,5 +49,19 @@ impl Sides {
         ensures { result ≡ slot_count self.height self.width }
     {
         self.rows() * self.width
+    }
+
+    // The slot of a number, counted row by row; absent where there is no such slot.
+    pub fn slot(self, number: usize) -> Option<Slot>
+        ensures { MatchOption result (slot_count self.height self.width ≤ number) (λ s. (number < slot_count self.height self.width) × (s ≡ numbered_slot self.width number)) }
+    {
+        if number < self.slots() {
+            Some(Slot {
+                row: (number / self.width) as u8,
+                bay: (number % self.width) as u8,
+            })
+        } else {
+            None
+        }
     }
 }

@@ -4,7 +4,7 @@ ghost use Rattle.grid.specs.Slots.{slot_square};
 use crate::square::Square;
 
 // A slot: a square in which a carrier rests. Bay b is the column of squares 3b + 1; each of its squares is a slot.
-#[derive(Clone, Copy)]
+#[derive(Clone, Copy, PartialEq, Eq, Debug)]
 pub struct Slot {
     pub row: u8,
     pub bay: u8,

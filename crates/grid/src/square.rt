@@ -2,7 +2,7 @@ ghost use Rattle.std.specs.Prelude.{◌≡◌, ◌&&◌, ◌==◌};
 ghost use Rattle.grid.specs.Squares.{turned_square};
 
 // A square of a floor: rows are counted from 0 at the top, columns from 0 at the left.
-#[derive(Clone, Copy)]
+#[derive(Clone, Copy, PartialEq, Eq, Debug)]
 pub struct Square {
     pub row: usize,
     pub column: usize,
@@ -22,6 +22,6 @@ impl Square {
     pub fn is(self, other: Square) -> bool
         ensures { result ≡ (self.row == other.row && self.column == other.column) }
     {
-        self.row == other.row && self.column == other.column
+        self == other
     }
 }

@@ -5,7 +5,6 @@ ghost use Rattle.roster.specs.Rosters.{roster_view, roster_sound};
 use crate::Roster;
 use deck::Deck;
 use deck::fault::DeckFault;
-use decklists::moves;
 use grid::heading::Heading;
 use grid::square::Square;
 
@@ -15,50 +14,37 @@ impl Deck for Roster {
     ghost sound = { roster_sound };
 
     fn rows(&self) -> usize {
-        self.extent.rows
+        self.carriers.rows()
     }
 
     fn columns(&self) -> usize {
-        self.extent.columns
+        self.carriers.columns()
     }
 
     fn carriers(&self) -> usize {
-        self.squares.len()
+        self.carriers.carriers()
     }
 
     fn is_ready(&self) -> bool
         ensures shown { result ≡ (roster_view self.now).ready }
         ensures always { result ≡ true }
     {
-        true
+        self.carriers.is_ready()
     }
 
     fn place(&self, carrier: usize) -> Option<Square> {
-        if carrier < self.squares.len() {
-            Some(self.squares[carrier])
-        } else {
-            None
-        }
+        self.carriers.place(carrier)
     }
 
     fn heading(&self, carrier: usize) -> Option<Heading> {
-        if carrier < self.headings.len() {
-            Some(self.headings[carrier])
-        } else {
-            None
-        }
+        self.carriers.heading(carrier)
     }
 
     fn steer(&mut self, carrier: usize, heading: u8) -> Result<(), DeckFault> {
-        moves::steer_one(&mut self.headings, carrier, heading)
+        self.carriers.steer(carrier, heading)
     }
 
     fn go(&mut self) -> Result<(), DeckFault> {
-        moves::go(
-            self.extent,
-            &mut self.squares,
-            &mut self.headings,
-            &mut self.notes,
-        )
+        self.carriers.go()
     }
 }

@@ -1,8 +1,0 @@
-use Rattle.std.proofs.Common.{true}
-use Rattle.deck.specs.Decks.{end}
-use Rattle.decklists.specs.Lists.{listed}
-use Rattle.decklists.specs.Notes.{Noted}
-use Rattle.decklists.proofs.moves.note_ends.Given as goal
-
-abbrev pub invariant-loop-k : goal.invariant-loop-k
-invariant-loop-k l = Noted l.extent.columns l.k (end (listed l.extent l.squares l.headings true)) l.table
