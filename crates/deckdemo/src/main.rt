@@ -3,7 +3,6 @@
 // For: seeing what the decks do. Promises: nothing beyond what the decks do. Rests on: grid, deck, roster, board.
 #![tactic(auto)]
 
-use anyhow::anyhow;
 use board::Board;
 use deck::Deck;
 use deck::drive::drive;
@@ -15,10 +14,8 @@ use roster::Roster;
 // How a square is shown: the digit of the carrier on it, else a slot or a lane.
 fn mark<D: Deck>(deck: &D, square: Square) -> char {
     for (carrier, digit) in ['0', '1', '2'].into_iter().enumerate() {
-        if let Some(place) = deck.place(carrier) {
-            if place.is(square) {
-                return digit;
-            }
+        if deck.place(carrier) == Some(square) {
+            return digit;
         }
     }
     if square.column % 3 == 1 { '_' } else { '.' }
@@ -42,7 +39,7 @@ fn attempt<D: Deck>(
 ) -> anyhow::Result<()> {
     show(rt, deck)?;
     match drive(deck, headings) {
-        Ok(_) => println!(rt; "{what}: accepted")?,
+        Ok(()) => println!(rt; "{what}: accepted")?,
         Err(fault) => println!(rt; "{what}: refused {}", fault.number())?,
     }
     show(rt, deck)?;
@@ -64,20 +61,14 @@ fn tour<D: Deck>(rt: &HostRuntime, deck: &mut D, name: &str) -> anyhow::Result<(
 }
 
 fn rosters(rt: &HostRuntime) -> anyhow::Result<()> {
-    let Ok(mut upright) = Roster::upright(rt.alloc(), 1, 1) else {
-        return Err(anyhow!("no roster"));
-    };
+    let mut upright = Roster::upright(rt.alloc(), 1, 1)?;
     tour(rt, &mut upright, "roster")?;
-    let Ok(lying) = Roster::lying(rt.alloc(), 1, 1) else {
-        return Err(anyhow!("no roster"));
-    };
+    let lying = Roster::lying(rt.alloc(), 1, 1)?;
     tour(rt, &mut Turned::over(lying), "turned over a lying roster")
 }
 
 fn boards(rt: &HostRuntime) -> anyhow::Result<()> {
-    let Ok(mut upright) = Board::upright(rt.alloc(), 1, 1) else {
-        return Err(anyhow!("no board"));
-    };
+    let mut upright = Board::upright(rt.alloc(), 1, 1)?;
     tour(rt, &mut upright, "board")?;
     upright.open_contact();
     rt.println("== board, its contact open")?;
@@ -85,9 +76,7 @@ fn boards(rt: &HostRuntime) -> anyhow::Result<()> {
     upright.close_contact();
     rt.println("== board, its contact closed again")?;
     attempt(rt, &mut upright, "0 up", &[Heading::Up])?;
-    let Ok(lying) = Board::lying(rt.alloc(), 1, 1) else {
-        return Err(anyhow!("no board"));
-    };
+    let lying = Board::lying(rt.alloc(), 1, 1)?;
     tour(rt, &mut Turned::over(lying), "turned over a lying board")
 }
 

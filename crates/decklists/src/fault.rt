@@ -3,6 +3,8 @@ ghost use Rattle.decklists.specs.declared.fault.BuildFault.TheVariants.{NoMemory
 ghost use Rattle.decklists.specs.Faults.{build_number};
 
 use std::alloc::AllocError;
+use std::error::Error;
+use std::fmt;
 
 // Why a deck is not made.
 #[derive(Clone, Copy, PartialEq, Eq, Debug)]
@@ -26,3 +28,14 @@ impl From<AllocError> for BuildFault {
         BuildFault::NoMemory
     }
 }
+
+impl fmt::Display for BuildFault {
+    fn fmt<W: fmt::Write>(&self, f: &mut fmt::Formatter<W>) -> fmt::Result {
+        f.write_str(match self {
+            BuildFault::BadSides => "a side is not from 1 to 16 cells",
+            BuildFault::NoMemory => "there is no memory for the deck",
+        })
+    }
+}
+
+impl Error for BuildFault {}

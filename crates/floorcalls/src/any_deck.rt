@@ -1,23 +1,26 @@
 // Any of the decks that can be asked for.
-ghost use Rattle.floorcalls.specs.Decks.{any_deck_view, any_deck_sound};
+ghost use Rattle.floorcalls.specs.Decks.{either_view, either_sound};
 
+use crate::refusal::Refusal;
 use board::Board;
 use deck::Deck;
 use deck::fault::DeckFault;
 use deck::turned::Turned;
-use decklists::fault::BuildFault;
 use grid::heading::Heading;
 use grid::square::Square;
 use roster::Roster;
 use std::alloc::Global;
 
+// A deck of one of two types.
 #[derive(Drop)]
-pub enum AnyDeck {
-    OfRoster(Roster),
-    OfBoard(Board),
-    TurnedRoster(Turned<Roster>),
-    TurnedBoard(Turned<Board>),
+pub enum EitherDeck<A, B> {
+    First(A),
+    Second(B),
 }
+
+pub type PlainDeck = EitherDeck<Roster, Board>;
+
+pub type AnyDeck = EitherDeck<PlainDeck, Turned<PlainDeck>>;
 
 // A new deck of a kind, if there is such a kind.
 pub(crate) fn make(
@@ -25,124 +28,111 @@ pub(crate) fn make(
     kind: &str,
     height: usize,
     width: usize,
-) -> Option<Result<AnyDeck, BuildFault>> {
+) -> Result<AnyDeck, Refusal> {
     match kind {
-        "roster" => Some(match Roster::upright(heap, height, width) {
-            Ok(deck) => Ok(AnyDeck::OfRoster(deck)),
-            Err(fault) => Err(fault),
-        }),
-        "board" => Some(match Board::upright(heap, height, width) {
-            Ok(deck) => Ok(AnyDeck::OfBoard(deck)),
-            Err(fault) => Err(fault),
-        }),
-        "turned-roster" => Some(match Roster::lying(heap, height, width) {
-            Ok(deck) => Ok(AnyDeck::TurnedRoster(Turned::over(deck))),
-            Err(fault) => Err(fault),
-        }),
-        "turned-board" => Some(match Board::lying(heap, height, width) {
-            Ok(deck) => Ok(AnyDeck::TurnedBoard(Turned::over(deck))),
-            Err(fault) => Err(fault),
-        }),
-        _ => None,
+        "roster" => {
+            let deck = Roster::upright(heap, height, width)?;
+            Ok(EitherDeck::First(EitherDeck::First(deck)))
+        }
+        "board" => {
+            let deck = Board::upright(heap, height, width)?;
+            Ok(EitherDeck::First(EitherDeck::Second(deck)))
+        }
+        "turned-roster" => {
+            let deck = Roster::lying(heap, height, width)?;
+            Ok(EitherDeck::Second(Turned::over(EitherDeck::First(deck))))
+        }
+        "turned-board" => {
+            let deck = Board::lying(heap, height, width)?;
+            Ok(EitherDeck::Second(Turned::over(EitherDeck::Second(deck))))
+        }
+        _ => Err(Refusal::Malformed),
     }
 }
 
-// Opens or closes a board's contact.
-fn with_contact(mut board: Board, closed: bool) -> Board {
-    if closed {
-        board.close_contact();
-    } else {
-        board.open_contact();
+// The deck with its contact opened or closed; a roster has none.
+fn plain_contacted(deck: PlainDeck, closed: bool) -> PlainDeck {
+    match deck {
+        EitherDeck::Second(mut board) => {
+            if closed {
+                board.close_contact();
+            } else {
+                board.open_contact();
+            }
+            EitherDeck::Second(board)
+        }
+        roster => roster,
     }
-    board
 }
 
-// The deck with its contact opened or closed; other decks have none.
 pub(crate) fn contacted(deck: AnyDeck, closed: bool) -> AnyDeck {
     match deck {
-        AnyDeck::OfBoard(board) => AnyDeck::OfBoard(with_contact(board, closed)),
-        AnyDeck::TurnedBoard(turned) => {
-            let board = with_contact(turned.into_below(), closed);
-            AnyDeck::TurnedBoard(Turned::over(board))
+        EitherDeck::First(plain) => EitherDeck::First(plain_contacted(plain, closed)),
+        EitherDeck::Second(turned) => {
+            let plain = plain_contacted(turned.into_below(), closed);
+            EitherDeck::Second(Turned::over(plain))
         }
-        other => other,
     }
 }
 
-impl Deck for AnyDeck {
-    ghost view = { any_deck_view };
+impl<A: Deck, B: Deck> Deck for EitherDeck<A, B> {
+    ghost view = { either_view A.Deck.view B.Deck.view };
 
-    ghost sound = { any_deck_sound };
+    ghost sound = { either_sound A.Deck.view B.Deck.view A.Deck.sound B.Deck.sound };
 
     fn rows(&self) -> usize {
         match self {
-            AnyDeck::OfRoster(d) => d.rows(),
-            AnyDeck::OfBoard(d) => d.rows(),
-            AnyDeck::TurnedRoster(d) => d.rows(),
-            AnyDeck::TurnedBoard(d) => d.rows(),
+            EitherDeck::First(deck) => deck.rows(),
+            EitherDeck::Second(deck) => deck.rows(),
         }
     }
 
     fn columns(&self) -> usize {
         match self {
-            AnyDeck::OfRoster(d) => d.columns(),
-            AnyDeck::OfBoard(d) => d.columns(),
-            AnyDeck::TurnedRoster(d) => d.columns(),
-            AnyDeck::TurnedBoard(d) => d.columns(),
+            EitherDeck::First(deck) => deck.columns(),
+            EitherDeck::Second(deck) => deck.columns(),
         }
     }
 
     fn carriers(&self) -> usize {
         match self {
-            AnyDeck::OfRoster(d) => d.carriers(),
-            AnyDeck::OfBoard(d) => d.carriers(),
-            AnyDeck::TurnedRoster(d) => d.carriers(),
-            AnyDeck::TurnedBoard(d) => d.carriers(),
+            EitherDeck::First(deck) => deck.carriers(),
+            EitherDeck::Second(deck) => deck.carriers(),
         }
     }
 
     fn is_ready(&self) -> bool {
         match self {
-            AnyDeck::OfRoster(d) => d.is_ready(),
-            AnyDeck::OfBoard(d) => d.is_ready(),
-            AnyDeck::TurnedRoster(d) => d.is_ready(),
-            AnyDeck::TurnedBoard(d) => d.is_ready(),
+            EitherDeck::First(deck) => deck.is_ready(),
+            EitherDeck::Second(deck) => deck.is_ready(),
         }
     }
 
     fn place(&self, carrier: usize) -> Option<Square> {
         match self {
-            AnyDeck::OfRoster(d) => d.place(carrier),
-            AnyDeck::OfBoard(d) => d.place(carrier),
-            AnyDeck::TurnedRoster(d) => d.place(carrier),
-            AnyDeck::TurnedBoard(d) => d.place(carrier),
+            EitherDeck::First(deck) => deck.place(carrier),
+            EitherDeck::Second(deck) => deck.place(carrier),
         }
     }
 
     fn heading(&self, carrier: usize) -> Option<Heading> {
         match self {
-            AnyDeck::OfRoster(d) => d.heading(carrier),
-            AnyDeck::OfBoard(d) => d.heading(carrier),
-            AnyDeck::TurnedRoster(d) => d.heading(carrier),
-            AnyDeck::TurnedBoard(d) => d.heading(carrier),
+            EitherDeck::First(deck) => deck.heading(carrier),
+            EitherDeck::Second(deck) => deck.heading(carrier),
         }
     }
 
     fn steer(&mut self, carrier: usize, heading: u8) -> Result<(), DeckFault> {
         match self {
-            AnyDeck::OfRoster(d) => d.steer(carrier, heading),
-            AnyDeck::OfBoard(d) => d.steer(carrier, heading),
-            AnyDeck::TurnedRoster(d) => d.steer(carrier, heading),
-            AnyDeck::TurnedBoard(d) => d.steer(carrier, heading),
+            EitherDeck::First(deck) => deck.steer(carrier, heading),
+            EitherDeck::Second(deck) => deck.steer(carrier, heading),
         }
     }
 
     fn go(&mut self) -> Result<(), DeckFault> {
         match self {
-            AnyDeck::OfRoster(d) => d.go(),
-            AnyDeck::OfBoard(d) => d.go(),
-            AnyDeck::TurnedRoster(d) => d.go(),
-            AnyDeck::TurnedBoard(d) => d.go(),
+            EitherDeck::First(deck) => deck.go(),
+            EitherDeck::Second(deck) => deck.go(),
         }
     }
 }

@@ -3,22 +3,24 @@
 #![tactic(auto)]
 
 mod any_deck;
-mod played;
+mod play;
+mod refusal;
 mod words;
 
-use any_deck::AnyDeck;
-use floor::record::Floor;
-use played::answer;
+use play::Play;
+use refusal::Refusal;
 use std::io;
 
 fn main(rt: HostRuntime) -> io::Result<()> {
     let heap = rt.alloc();
-    let mut deck: Option<AnyDeck> = None;
-    let mut floor: Option<Floor> = None;
+    let mut play = Play::new(heap);
     for line in rt.lines(heap) {
         let line = line?;
-        let text = answer(heap, line.as_str(), &mut deck, &mut floor)?;
-        println!(rt; "{line} => {text}")?;
+        match play.answer(line.as_str()) {
+            Ok(text) => println!(rt; "{line} => {text}")?,
+            Err(Refusal::Unanswered(error)) => return Err(error.into()),
+            Err(refusal) => println!(rt; "{line} => {refusal}")?,
+        }
     }
     Ok(())
 }

@@ -1,38 +1,33 @@
 // Reading the words of a call.
+use crate::refusal::Refusal;
+use rules::fault::RuleFault;
 use std::alloc::{AllocError, Global};
+use std::str::FromStr;
 
-pub(crate) fn number(word: &str) -> Option<usize> {
-    word.parse::<usize>().ok()
+pub(crate) fn number(word: &str) -> Result<usize, Refusal> {
+    word.parse().map_err(|_| Refusal::Malformed)
+}
+
+// Two parts with a mark between.
+pub(crate) fn parts(words: &str, mark: char) -> Result<(&str, &str), Refusal> {
+    words.split_once(mark).ok_or(Refusal::Malformed)
 }
 
 // Two numbers with a space between.
-pub(crate) fn two(words: &str) -> Option<(usize, usize)> {
-    let (first, second) = words.split_once(' ')?;
-    let first = number(first)?;
-    let second = number(second)?;
-    Some((first, second))
+pub(crate) fn two(words: &str) -> Result<(usize, usize), Refusal> {
+    let (first, second) = parts(words, ' ')?;
+    Ok((number(first)?, number(second)?))
 }
 
-// The numbers of a list; none where a word is no number of 16 bits.
-pub(crate) fn entries(heap: Global, words: &str) -> Result<Option<Vec<u16>>, AllocError> {
+// The numbers of a rule's list.
+pub(crate) fn entries<N: FromStr + Drop>(heap: Global, words: &str) -> Result<Vec<N>, Refusal>
+where
+    N::Err: Drop,
+{
     let mut list = Vec::new(heap);
     for word in words.split_whitespace() {
-        match word.parse::<u16>() {
-            Ok(entry) => list.push(entry)?,
-            Err(_) => return Ok(None),
-        }
+        let entry = word.parse::<N>().map_err(|_| RuleFault::BadEntry)?;
+        list.push(entry).map_err(AllocError::from)?;
     }
-    Ok(Some(list))
-}
-
-// The numbers of a list; none where a word is no number of 8 bits.
-pub(crate) fn bytes(heap: Global, words: &str) -> Result<Option<Vec<u8>>, AllocError> {
-    let mut list = Vec::new(heap);
-    for word in words.split_whitespace() {
-        match word.parse::<u8>() {
-            Ok(byte) => list.push(byte)?,
-            Err(_) => return Ok(None),
-        }
-    }
-    Ok(Some(list))
+    Ok(list)
 }
