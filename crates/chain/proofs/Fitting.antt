@@ -114,7 +114,7 @@ module _ (h w : ℕ) (z : DeckView) (o : FloorView) (sized : Sized h w z) (sound
             sound.apart c d cd (omega arith) squares;
       }
 
-  opened_good : Good o.plan
+  pub opened_good : Good o.plan
   opened_good =
       record {
         starts = in_slots o.plan.start (λ c n. refl);
@@ -143,7 +143,7 @@ module _ (h w : ℕ) (z : DeckView) (o : FloorView) (sized : Sized h w z) (sound
   none from to same =
       greatest_zero o.plan.carriers (λ c. away (from c) (to c)) (λ c n. let e = same c (here c n) in omega arith)
 
-  opened_steps : plan_steps o.plan ≡ 0
+  pub opened_steps : plan_steps o.plan ≡ 0
   opened_steps =
       let p = o.plan in
       let first : first_columns_steps p ≡ 0 = ap run_steps (none (start_row p) p.middle (λ c n. sym (new.middles c n))) in

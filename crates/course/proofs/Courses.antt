@@ -1,7 +1,10 @@
 -- The stage that a plan stands in says where its carriers are and are headed; the lengths of the stages.
-use Rattle.std.proofs.Common.{◌≡◌, ℕ, zero, suc, ◌+◌, ◌<◌, ◌≤◌, max, List, length, take, sym, ap, ◌∙◌, add-one, arith}
+use Rattle.std.proofs.Common.{◌≡◌, ℕ, zero, suc, ◌+◌, ◌<◌, ◌≤◌, max, List, map, length, take, Option, unwrap_or, sym, ap, ◌∙◌, add-one, arith}
 use Rattle.std.proofs.lemmas.List.{take_all}
 use Rattle.std.proofs.lemmas.List.Sums.{fold_more}
+use Rattle.std.proofs.lemmas.List.Folds.{max_of_map}
+use Rattle.std.specs.List.{reduce}
+use Rattle.std.specs.Ordering.{max_by_ordering, nat_cmp}
 use Rattle.motion.specs.Plans.{Plan, greatest, first_columns, turning, rows, turning_back, last_columns, whole, plan_steps}
 use Rattle.motion.specs.Motions.{Motion, and_then}
 use Rattle.motion.proofs.Motions.{place_early, place_late, heading_early, heading_late}
@@ -41,6 +44,14 @@ pub greatest_listed :
 greatest_listed answer routes =
     ap (greatest_of answer) (sym (take_all (length routes) routes (omega arith)))
     ∙ greatest_first answer routes (length routes) (omega arith)
+
+-- what `max().unwrap_or(0)` answers of the routes' answers
+pub greatest_asked :
+    (answer : Route → ℕ) (routes : List Route) (most : Option ℕ) (n : ℕ)
+    → n ≡ unwrap_or most 0
+    → most ≡ reduce (λ p z. max_by_ordering (nat_cmp p z) p z) (map answer routes)
+    → n ≡ greatest_of answer routes
+greatest_asked answer routes most n e m = e ∙ ap (λ (o : Option ℕ). unwrap_or o 0) m ∙ max_of_map answer routes
 
 alike_early : (a b : Motion) (t : ℕ) → t < a.steps → Alike (and_then a b) t a t
 alike_early a b t h = record { place = λ c. place_early a b t c h; heading = λ c. heading_early a b t c h }

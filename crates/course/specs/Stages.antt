@@ -1,9 +1,12 @@
 -- The stages by name: which motion each is, how many steps each has, and in which one a plan stands.
 use Rattle.std.specs.Prelude.{◌≡◌, ℕ, ◌+◌, ◌<◌}
+use Rattle.grid.specs.declared.heading.Heading.{Heading}
+use Rattle.grid.specs.declared.square.Square.{Square}
 use Rattle.motion.specs.Motions.{Motion}
 use Rattle.motion.specs.Plans.{Plan, first_columns, turning, rows, turning_back, last_columns, first_columns_steps, turn_steps, rows_steps, turn_back_steps, last_columns_steps}
 use Rattle.course.specs.declared.stage.Stage.{Stage}
 use Rattle.course.specs.declared.stage.Stage.TheVariants.{FirstColumns, Turn, Rows, TurnBack, LastColumns}
+use Rattle.course.specs.declared.stage.Moment.{Moment}
 use Rattle.course.specs.declared.stage.Stages.{Stages}
 
 abbrev pub motion_of : Stage → Plan → Motion
@@ -12,6 +15,13 @@ motion_of Turn p = turning p
 motion_of Rows p = rows p
 motion_of TurnBack p = turning_back p
 motion_of LastColumns p = last_columns p
+
+-- where a plan's carriers are at a moment, and where they are headed
+abbrev pub place_when : Moment → Plan → ℕ → Square
+place_when m p c = (motion_of m.stage p).place m.progress c
+
+abbrev pub heading_when : Moment → Plan → ℕ → Heading
+heading_when m p c = (motion_of m.stage p).heading m.progress c
 
 -- one motion after t steps is as another after u steps
 pub record Alike (a : Motion) (t : ℕ) (b : Motion) (u : ℕ) : Type 0 where

@@ -3,7 +3,7 @@ ghost use Rattle.grid.specs.Headings.{opposite};
 ghost use Rattle.motion.specs.Runs.{turn_heading};
 ghost use Rattle.motion.specs.Plans.{Plan, whole};
 ghost use Rattle.course.specs.Routes.{HasRoute};
-ghost use Rattle.course.specs.Stages.{motion_of, Staged};
+ghost use Rattle.course.specs.Stages.{heading_when, place_when, Staged};
 ghost use Rattle.course.specs.Upright.{run_from, run_to};
 
 use crate::run::{Run, turn_square};
@@ -23,7 +23,7 @@ pub struct Route {
 impl Route {
     // The carrier's heading at a moment.
     pub fn heading(&self, moment: Moment) -> Heading
-        ensures { (p : Plan) (c : ℕ) → HasRoute p c self.now → result ≡ (motion_of moment.stage p).heading moment.progress c }
+        ensures { (p : Plan) (c : ℕ) → HasRoute p c self.now → result ≡ heading_when moment p c }
     {
         let Moment { stage, progress } = moment;
         let run = self.run(stage);
@@ -40,14 +40,14 @@ impl Route {
 
     // The heading that undoes the step which the carrier makes at a moment.
     pub fn heading_back(&self, moment: Moment) -> Heading
-        ensures { (p : Plan) (c : ℕ) → HasRoute p c self.now → result ≡ opposite ((motion_of moment.stage p).heading moment.progress c) }
+        ensures { (p : Plan) (c : ℕ) → HasRoute p c self.now → result ≡ opposite (heading_when moment p c) }
     {
         self.heading(moment).opposite()
     }
 
     // The carrier's square at a moment.
     pub fn place(&self, moment: Moment) -> Square
-        ensures { (p : Plan) (c : ℕ) → HasRoute p c self.now → result ≡ (motion_of moment.stage p).place moment.progress c }
+        ensures { (p : Plan) (c : ℕ) → HasRoute p c self.now → result ≡ place_when moment p c }
     {
         let Moment { stage, progress } = moment;
         match stage {

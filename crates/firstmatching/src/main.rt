@@ -2,20 +2,20 @@
 // first perfect matching, or `none`. Where the input is not such text it prints `malformed` and stops.
 #![tactic(auto)]
 
-use matchingtext::{TextTable, sheet_at, solve};
+use matchingtext::{TextTable, first_sheet, solve};
 use std::alloc::{AllocError, Global};
+use std::fmt::Write;
 use std::io;
 use std::io::Read;
 
 // The numbers with one space between.
 fn spaced(heap: Global, numbers: &[usize]) -> Result<String, AllocError> {
     let mut line = String::new(heap);
-    for (k, number) in numbers.iter().enumerate() {
-        if k > 0 {
+    for number in numbers {
+        if !line.is_empty() {
             line.push_str(" ")?;
         }
-        let digits = number.to_string(heap)?;
-        line.push_str(digits.as_str())?;
+        write!(line, "{number}")?;
     }
     Ok(line)
 }
@@ -30,14 +30,13 @@ fn answer(heap: Global, table: &TextTable) -> Result<String, AllocError> {
 
 // A line for each relation of the text.
 fn run(rt: HostRuntime, text: &[u8]) -> io::Result<()> {
-    let mut at = 0;
-    while at < text.len() {
-        let Some(sheet) = sheet_at(text, at) else {
+    let mut rest = text;
+    while !rest.is_empty() {
+        let Some(sheet) = first_sheet(rest) else {
             return println!(rt; "malformed");
         };
-        let table = TextTable::new(&text[sheet.from..sheet.to], sheet.count);
-        rt.println(answer(rt.alloc(), &table)?)?;
-        at = sheet.to;
+        rt.println(answer(rt.alloc(), &sheet.table)?)?;
+        rest = sheet.rest;
     }
     Ok(())
 }

@@ -7,7 +7,7 @@ use Rattle.grid.specs.Headings.{letter}
 use Rattle.grid.specs.Sides.{slot_count}
 use Rattle.motion.specs.Plans.{whole}
 use Rattle.course.specs.declared.route.Route.{Route}
-use Rattle.course.specs.declared.stage.Stage.{Stage}
+use Rattle.course.specs.declared.stage.Moment.{Moment}
 use Rattle.course.specs.Routes.{plan_of}
 use Rattle.course.specs.Stages.{motion_of, Alike}
 use Rattle.floor.specs.Shown.{shown, plan_in}
@@ -41,18 +41,18 @@ same_letters : {f g : ℕ → ℕ} → ((c : ℕ) → f c ≡ g c) → (cs : Lis
 same_letters e [] = refl
 same_letters e (c ∷ cs) = let h = e c in let t = same_letters e cs in cc
 
--- the letters by the stage are the plan's
+-- the letters by the moment are the plan's
 pub letters_whole :
-    (f : Floor) (bytes : List ℕ) (routes : List Route) (stage : Stage) (n : ℕ)
+    (f : Floor) (bytes : List ℕ) (routes : List Route) (m : Moment)
     → routes ≡ vec_items f.routes
-    → Alike (whole (plan_in f)) f.steps_done (motion_of stage (plan_in f)) n
-    → ((h w : ℕ) → bytes ≡ letters (motion_of stage (plan_of h w routes)) n (length routes) ++ 10 ∷ [])
+    → Alike (whole (plan_in f)) f.steps_done (motion_of m.stage (plan_in f)) m.progress
+    → ((h w : ℕ) → bytes ≡ letters (motion_of m.stage (plan_of h w routes)) m.progress (length routes) ++ 10 ∷ [])
     → bytes ≡ line_bytes (shown f)
-letters_whole f bytes routes stage n same alike all =
+letters_whole f bytes routes m same alike all =
     let h = f.sides.height in
     let w = f.sides.width in
-    let here : bytes ≡ letters (motion_of stage (plan_in f)) n (length (vec_items f.routes)) ++ 10 ∷ [] =
-    subst (λ (rs : List Route). bytes ≡ letters (motion_of stage (plan_of h w rs)) n (length rs) ++ 10 ∷ []) same (all h w) in
+    let here : bytes ≡ letters (motion_of m.stage (plan_in f)) m.progress (length (vec_items f.routes)) ++ 10 ∷ [] =
+    subst (λ (rs : List Route). bytes ≡ letters (motion_of m.stage (plan_of h w rs)) m.progress (length rs) ++ 10 ∷ []) same (all h w) in
     here
-    ∙ ap (λ (k : ℕ). letters (motion_of stage (plan_in f)) n k ++ 10 ∷ []) f.many
+    ∙ ap (λ (k : ℕ). letters (motion_of m.stage (plan_in f)) m.progress k ++ 10 ∷ []) f.many
     ∙ ap (λ (t : List ℕ). t ++ 10 ∷ []) (same_letters (λ c. ap letter (sym (alike.heading c))) (range_with_len 0 (slot_count h w)))

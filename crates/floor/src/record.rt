@@ -18,6 +18,7 @@ mod order;
 mod standing;
 
 // What a table of routes holds before it is written.
+// Kept as it is: only `open` allocates, so the calls' tables are arrays of the largest floor.
 const NOWHERE: Route = Route {
     start: Slot { row: 0, bay: 0 },
     middle_row: 0,

@@ -1,25 +1,27 @@
 -- What was found, or who blocks, says exactly when there is a perfect matching.
-use Rattle.std.proofs.Common.{◌≡◌, ℕ, Bool, List, refl, arith}
-use Rattle.matchings.specs.Matchings.{First, Blocking, listed}
+use Rattle.std.proofs.Common.{ℕ, Bool, List, Result, Ok, Err, IsOk, refl}
+use Rattle.std.specs.Prelude.{⊤}
+use Rattle.matchings.specs.Matchings.{listed}
+use Rattle.matchings.specs.Regular.{RegularCounts}
 use Rattle.matchings.proofs.Blocks.{none_past}
-use Rattle.matching.specs.declared.search.Matched.TheVariants.{Found, Blocked}
-use Rattle.matching.specs.Answers.{Exactly}
+use Rattle.matchings.proofs.Regularity.{never_blocks}
+use Rattle.matching.specs.declared.search.Blockers.{Blockers}
+use Rattle.matching.specs.Answers.{Answer, Exactly}
 
-blocked_not_found : (c : ℕ) → Blocked c ≡ Found → ⊥
-blocked_not_found c e = let z : ◌≡◌ {A = ℕ} 0 1 = cc in omega arith
-
-pub exactly_found : (A : ℕ → ℕ → Bool) (n : ℕ) (m : List ℕ) → First A n m → Exactly A n Found
-exactly_found A n m F = record {
-  perfect = λ e. (m, F.perfect);
+pub exactly_answered : (A : ℕ → ℕ → Bool) (n : ℕ) (mate members : List ℕ) (r : Result ⊤ Blockers) → Answer A n mate members r → Exactly A n r
+exactly_answered A n mate members (Ok x) F = record {
+  perfect = λ e. (mate, F.perfect);
   found = λ p P. refl;
-  unblocked = λ e set. none_past A n m set F.perfect;
+  unblocked = λ e set. none_past A n mate set F.perfect;
   free = λ f. refl;
 }
-
-pub exactly_blocked : (A : ℕ → ℕ → Bool) (n : ℕ) (members : List ℕ) (c : ℕ) → Blocking A n members c → Exactly A n (Blocked c)
-exactly_blocked A n members c b = record {
-  perfect = λ e. absurd (blocked_not_found c e);
-  found = λ p P. absurd (none_past A n p (listed members c) P b.blocks);
-  unblocked = λ e. absurd (blocked_not_found c e);
-  free = λ f. absurd (f (listed members c) b.blocks);
+exactly_answered A n mate members (Err b) B = record {
+  perfect = λ e. cc;
+  found = λ p P. absurd (none_past A n p (listed members b.count) P B.blocks);
+  unblocked = λ e. cc;
+  free = λ f. absurd (f (listed members b.count) B.blocks);
 }
+
+pub regular_answered : (A : ℕ → ℕ → Bool) (n : ℕ) (mate members : List ℕ) (r : Result ⊤ Blockers) → Answer A n mate members r → RegularCounts A n → IsOk r
+regular_answered A n mate members (Ok x) F C = refl
+regular_answered A n mate members (Err b) B C = absurd (never_blocks _ _ (listed members b.count) C B.blocks)

@@ -1,2 +1,3 @@
 mod Rooms
+mod Keeping
 mod Exact

@@ -1,2 +1,3 @@
 pub mod WorkLists
+pub mod Tables
 pub mod Answers

@@ -8,13 +8,17 @@
 // It rests on the crate `matchings`, which says what a perfect matching and a blocking set are, and has the lemmas.
 #![tactic(auto)]
 
+mod notes;
 mod placing;
+mod quest;
 mod reaching;
 mod relation;
 mod search;
+mod tables;
 mod ticks;
 mod work_list;
 
 pub use relation::Relation;
-pub use search::{Matched, first_matching};
-pub use work_list::WorkList;
+pub use search::{Blockers, first_matching};
+pub use tables::Tables;
+pub use work_list::{Entry, WorkList};

@@ -1,41 +1,41 @@
 ghost use Rattle.std.specs.Prelude.{◌≡◌, ℕ, ◌<◌, ◌≤◌, length};
 ghost use Rattle.matchings.specs.Matchings.{◌!◌};
-ghost use Rattle.matchings.specs.Reaching.{Clear, loose, Inj, Chosen};
+ghost use Rattle.matchings.specs.Reaching.{loose, Inj, Chosen};
 ghost use Rattle.matchings.specs.Placing.{Turned, Others, Confined};
-ghost use Rattle.matching.specs.WorkLists.{members_of, parents_of, Room, SameRoom};
+ghost use Rattle.matching.specs.WorkLists.{members_of, parents_of, places, Room};
+ghost use Rattle.matching.specs.Tables.{Ready, Kept};
 ghost use Rattle.matching.specs.Answers.{Outcome};
 
-use crate::reaching::{Quest, line_up, reach};
-use crate::relation::{Relation, may};
+use crate::quest::Quest;
+use crate::reaching::{line_up, reach};
+use crate::relation::Relation;
+use crate::tables::Tables;
 use crate::ticks::Ticks;
 use crate::work_list::WorkList;
 
-// What became of a left member: it has its right member, and the first `sealed` of the work list are then a block by
-// themselves (0: none is known); or there is none for it, and the first `reached` are those that come to it.
-#[derive(Drop)]
-pub enum Placing {
-    Given { sealed: usize },
-    Stuck { reached: usize },
+// There is no right member for a left member: so many at the front of the work list are those that come to it.
+#[derive(Clone, Copy, Debug, PartialEq, Eq)]
+pub struct Stuck {
+    pub reached: usize,
 }
 
-// The place, of the first `count` of the work list, of the least right member there that `left` allows.
+// The place, of the first `count` of the work list, of the least right member there that the left member of the quest allows.
 fn choose<R: Relation>(
-    rel: &R,
-    quest: Quest,
+    quest: &Quest<R>,
     mate: &[usize],
     work: &WorkList,
     count: usize,
 ) -> Option<usize>
-    requires size { (length mate.now ≡ R.Relation.size rel.now) × ((count ≤ length (members_of work.now)) × (quest.left < length mate.now)) }
+    requires size { (length mate.now ≡ R.Relation.size quest.now.rel.now) × (count ≤ places work.now) }
     requires inj { Inj (length mate.now) (λ k. mate.now ! k) }
     requires below { (k : ℕ) → k < count → members_of work.now ! k < length mate.now }
-    ensures { Chosen (loose (R.Relation.allowed rel.now) quest.wild quest.left) mate.now (members_of work.now) count result }
+    ensures { Chosen (loose (R.Relation.allowed quest.now.rel.now) quest.now.wild quest.now.left) mate.now (members_of work.now) count result }
 {
     let mut best = None;
     let mut least = mate.len();
-    for k in 0..count {
-        let right = mate[work.member(k)];
-        if right < least && may(rel, quest.wild, quest.left, right) {
+    for (k, entry) in work.first(count).iter().enumerate() {
+        let right = mate[entry.member];
+        if right < least && quest.may(quest.left, right) {
             best = Some(k);
             least = right;
         }
@@ -62,45 +62,38 @@ fn rotate(mate: &mut [usize], left: usize, work: &WorkList, count: usize, start:
     }
 }
 
-// Gives `left` the least right member that it can have, where those below `fixed` keep theirs and none leaves its block.
+// Gives the left member of the quest the least right member that it can have, where those below `fixed` keep theirs and none
+// leaves its block. Where it is known of some members that they are a block by themselves from then on, they are at the
+// front of the work list, and it is told how many they are.
 pub fn place<R: Relation>(
-    rel: &R,
-    quest: Quest,
+    quest: &Quest<R>,
     mate: &mut [usize],
-    block: &[usize],
-    marks: &mut [u8],
-    seen: &mut [u8],
-    work: &mut WorkList,
-) -> Placing
-    requires size { (length mate.old ≡ R.Relation.size rel.now) × ((length mate.old ≤ length marks.old) × (length block.now ≡ length mate.old)) }
-    requires room { Room (length mate.old) work.old }
+    tables: &mut Tables,
+) -> Result<Option<usize>, Stuck>
+    requires size { length mate.old ≡ R.Relation.size quest.now.rel.now }
+    requires ready { Ready (length mate.old) tables.old }
     requires inj { Inj (length mate.old) (λ k. mate.old ! k) }
-    requires left { (quest.left < length mate.old) × (quest.fixed ≤ quest.left) }
-    requires clear { Clear marks.old (length mate.old) }
-    requires others { Others (loose (R.Relation.allowed rel.now) quest.wild) (length mate.old) quest.left mate.old }
-    requires confined { Confined (loose (R.Relation.allowed rel.now) quest.wild) (length mate.old) quest.fixed block.now mate.old }
-    ensures marks { marks.new ≡ marks.old }
-    ensures room { SameRoom work.old work.new }
-    ensures placed { Outcome (loose (R.Relation.allowed rel.now) quest.wild) (length mate.old) quest.fixed quest.left block.now mate.old mate.new (members_of work.new) result }
+    requires others { Others (loose (R.Relation.allowed quest.now.rel.now) quest.now.wild) (length mate.old) quest.now.left mate.old }
+    requires confined { Confined (loose (R.Relation.allowed quest.now.rel.now) quest.now.wild) (length mate.old) quest.now.fixed tables.old.block.now mate.old }
+    ensures kept { Kept tables.old tables.new }
+    ensures block { tables.new.block.now ≡ tables.old.block.now }
+    ensures placed { Outcome (loose (R.Relation.allowed quest.now.rel.now) quest.now.wild) (length mate.old) quest.now.fixed quest.now.left tables.old.block.now mate.old mate.new (members_of tables.new.work.now) result }
 {
-    let movable = line_up(block, quest, work);
-    let Some(best) = choose(rel, quest, mate, work, movable) else {
-        return Placing::Stuck { reached: movable };
+    let block = &mut *tables.block;
+    let movable = line_up(quest, block, tables.work);
+    let Some(best) = choose(quest, mate, tables.work, movable) else {
+        return Err(Stuck { reached: movable });
     };
-    let goal = work.member(best);
+    let goal = tables.work.member(best);
     let guard = Ticks {
-        marks,
+        marks: tables.marks,
         count: mate.len(),
     };
-    let count = reach(rel, quest, goal, movable, mate, guard.marks, seen, work);
-    let sealed = if guard.marks[mate[goal]] == 0 {
-        count
-    } else {
-        0
+    let count = reach(quest, goal, movable, mate, guard.marks, tables.work);
+    let sealed = (guard.marks[mate[goal]] == 0).then_some(count);
+    let Some(start) = choose(quest, mate, tables.work, count) else {
+        return Err(Stuck { reached: count });
     };
-    let Some(start) = choose(rel, quest, mate, work, count) else {
-        return Placing::Stuck { reached: count };
-    };
-    rotate(mate, quest.left, work, count, start);
-    Placing::Given { sealed }
+    rotate(mate, quest.left, tables.work, count, start);
+    Ok(sealed)
 }

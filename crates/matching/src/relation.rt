@@ -1,5 +1,5 @@
 ghost use Rattle.std.specs.Prelude.{◌≡◌, ℕ, ◌<◌, Bool, MatchOption};
-ghost use Rattle.matchings.specs.Reaching.{loose, IsClass};
+ghost use Rattle.matchings.specs.Reaching.{IsClass};
 
 // Which right members each left member allows, of as many of the one as of the other.
 pub trait Relation {
@@ -21,12 +21,4 @@ pub trait Relation {
     {
         None
     }
-}
-
-// Whether `left` may have `right`, where those from `wild` on, not settled yet, may have any.
-pub fn may<R: Relation>(rel: &R, wild: usize, left: usize, right: usize) -> bool
-    requires { (left < R.Relation.size rel.now) × (right < R.Relation.size rel.now) }
-    ensures { result ≡ loose (R.Relation.allowed rel.now) wild left right }
-{
-    left >= wild || rel.allows(left, right)
 }

@@ -1,68 +1,41 @@
-ghost use Rattle.std.specs.Prelude.{◌≡◌, ℕ, ◌+◌, ◌-◌, ◌<◌, ◌≤◌, length, MatchBool};
+ghost use Rattle.std.specs.Prelude.{◌≡◌, ℕ, ◌+◌, ◌<◌, ◌≤◌, length, map, IsOk, MatchBool};
 ghost use Rattle.matchings.specs.Matchings.{◌!◌, First};
 ghost use Rattle.matchings.specs.Regular.{RegularCounts};
 ghost use Rattle.matchings.specs.Reaching.{Clear, Inj, loose};
-ghost use Rattle.matchings.specs.Placing.{Held, Split, Gathered, HasLeast};
-ghost use Rattle.matching.specs.WorkLists.{members_of, Room, SameRoom};
+ghost use Rattle.matchings.specs.Placing.{Held, Split, HasLeast};
+ghost use Rattle.matching.specs.WorkLists.{member_of, members_of};
+ghost use Rattle.matching.specs.Tables.{Ready, Kept};
 ghost use Rattle.matching.specs.Answers.{Answer, Exactly, Settled};
 
-use crate::placing::{Placing, place};
-use crate::reaching::Quest;
+use crate::placing::{Stuck, place};
+use crate::quest::Quest;
 use crate::relation::Relation;
-use crate::work_list::WorkList;
+use crate::tables::Tables;
+use crate::work_list::Entry;
 
-// The search tells at most this many classes of right members apart; all others are visited each time.
-const NOTES: usize = 8192;
-
-// The first perfect matching is found; or so many members at the front of the work list block every one.
-#[derive(Drop)]
-pub enum Matched {
-    Found,
-    Blocked(usize),
+// No matching is perfect: so many members at the front of the work list block every one.
+#[derive(Clone, Copy, Debug, PartialEq, Eq)]
+pub struct Blockers {
+    pub count: usize,
 }
 
 // Each left member gets the right member of its own number.
 fn number(mate: &mut [usize])
     ensures { (k : ℕ) → k < length mate.old → mate.new ! k ≡ k }
 {
-    for k in 0..mate.len() {
-        mate[k] = k;
+    for (k, right) in mate.iter_mut().enumerate() {
+        *right = k;
     }
 }
 
-// All are in one block.
-fn unite(block: &mut [usize])
-    ensures { Clear block.new (length block.old) }
+// The members at hand get `label` for their block.
+fn split(block: &mut [usize], at_hand: &[Entry], label: usize)
+    requires { (k : ℕ) → k < length at_hand.now → map member_of at_hand.now ! k < length block.old }
+    ensures { Split (map member_of at_hand.now) (length at_hand.now) label block.old block.new }
 {
-    for k in 0..block.len() {
-        block[k] = 0;
+    for entry in at_hand {
+        block[entry.member] = label;
     }
-}
-
-// The first `count` members of the work list get `label` for their block.
-fn split(block: &mut [usize], work: &WorkList, count: usize, label: usize)
-    requires { (count ≤ length (members_of work.now)) × (((k : ℕ) → k < count → members_of work.now ! k < length block.old)) }
-    ensures { Split (members_of work.now) count label block.old block.new }
-{
-    for k in 0..count {
-        block[work.member(k)] = label;
-    }
-}
-
-// The members from `reached` to below `count` come right behind the first one. How many then stand there.
-fn gather(work: &mut WorkList, reached: usize, count: usize) -> usize
-    requires { (count ≤ length (members_of work.old)) × ((0 < reached) × (reached ≤ count)) }
-    ensures many { result ≡ count - reached + 1 }
-    ensures gathered { Gathered count reached (members_of work.old) (members_of work.new) }
-    ensures room { SameRoom work.old work.new }
-{
-    let mut tail = 1;
-    for k in reached..count {
-        let member = work.member(k);
-        work.put(tail, member);
-        tail += 1;
-    }
-    tail
 }
 
 // Gives `next` a right member that it allows and that nobody before it has, in exchange for its own: the least, since that leaves
@@ -74,10 +47,10 @@ fn take_free<R: Relation>(rel: &R, next: usize, mate: &mut [usize]) -> bool
 {
     let mut best = None;
     let mut least = mate.len();
-    for k in next..mate.len() {
-        if mate[k] < least && rel.allows(next, mate[k]) {
-            best = Some(k);
-            least = mate[k];
+    for (k, right) in mate[next..].iter().enumerate() {
+        if *right < least && rel.allows(next, *right) {
+            best = Some(next + k);
+            least = *right;
         }
     }
     let Some(k) = best else {
@@ -88,20 +61,13 @@ fn take_free<R: Relation>(rel: &R, next: usize, mate: &mut [usize]) -> bool
 }
 
 // Some perfect matching, or some left members that block.
-fn settle<R: Relation>(
-    rel: &R,
-    mate: &mut [usize],
-    block: &[usize],
-    marks: &mut [u8],
-    seen: &mut [u8],
-    work: &mut WorkList,
-) -> Matched
-    requires size { (length mate.old ≡ R.Relation.size rel.now) × ((length mate.old ≤ length marks.old) × (length block.now ≡ length mate.old)) }
-    requires room { Room (length mate.old) work.old }
-    requires clear { (Clear marks.old (length mate.old)) × (Clear block.now (length mate.old)) }
-    ensures marks { marks.new ≡ marks.old }
-    ensures room { SameRoom work.old work.new }
-    ensures settled { Settled (R.Relation.allowed rel.now) (length mate.old) mate.new (members_of work.new) result }
+fn settle<R: Relation>(rel: &R, mate: &mut [usize], tables: &mut Tables) -> Result<(), Blockers>
+    requires size { length mate.old ≡ R.Relation.size rel.now }
+    requires ready { Ready (length mate.old) tables.old }
+    requires united { Clear tables.old.block.now (length mate.old) }
+    ensures kept { Kept tables.old tables.new }
+    ensures block { tables.new.block.now ≡ tables.old.block.now }
+    ensures settled { Settled (R.Relation.allowed rel.now) (length mate.old) mate.new (members_of tables.new.work.now) result }
 {
     number(mate);
     let n = mate.len();
@@ -110,15 +76,17 @@ fn settle<R: Relation>(
             continue;
         }
         let quest = Quest {
+            rel,
             wild: next + 1,
             fixed: 0,
             left: next,
         };
-        if let Placing::Stuck { reached } = place(rel, quest, mate, block, marks, seen, work) {
-            return Matched::Blocked(gather(work, reached, n));
+        if let Err(Stuck { reached }) = place(&quest, mate, tables) {
+            let count = tables.work.gather(reached, n);
+            return Err(Blockers { count });
         }
     }
-    Matched::Found
+    Ok(())
 }
 
 // True only if no later member of the block of `left` has a lesser right member that `left` allows. False lets the search proper
@@ -129,8 +97,8 @@ fn has_least<R: Relation>(rel: &R, left: usize, mate: &[usize], block: &[usize])
     ensures { MatchBool result (HasLeast (R.Relation.allowed rel.now) (length mate.now) left block.now mate.now) (Unit {0}) }
 {
     let held = mate[left];
-    for l in left + 1..mate.len() {
-        if mate[l] < held && block[l] == block[left] && rel.allows(left, mate[l]) {
+    for (right, label) in mate[left + 1..].iter().zip(&block[left + 1..]) {
+        if *right < held && *label == block[left] && rel.allows(left, *right) {
             return false;
         }
     }
@@ -138,35 +106,30 @@ fn has_least<R: Relation>(rel: &R, left: usize, mate: &[usize], block: &[usize])
 }
 
 // Of a perfect matching the first in dictionary order.
-fn refine<R: Relation>(
-    rel: &R,
-    mate: &mut [usize],
-    block: &mut [usize],
-    marks: &mut [u8],
-    seen: &mut [u8],
-    work: &mut WorkList,
-)
-    requires size { (length mate.old ≡ R.Relation.size rel.now) × ((length mate.old ≤ length marks.old) × (length block.old ≡ length mate.old)) }
-    requires room { Room (length mate.old) work.old }
-    requires clear { (Clear marks.old (length mate.old)) × (Clear block.old (length mate.old)) }
+fn refine<R: Relation>(rel: &R, mate: &mut [usize], tables: &mut Tables)
+    requires size { length mate.old ≡ R.Relation.size rel.now }
+    requires ready { Ready (length mate.old) tables.old }
+    requires united { Clear tables.old.block.now (length mate.old) }
     requires held { Held (R.Relation.allowed rel.now) (length mate.old) mate.old }
-    ensures marks { marks.new ≡ marks.old }
-    ensures room { SameRoom work.old work.new }
+    ensures kept { Kept tables.old tables.new }
     ensures first { First (R.Relation.allowed rel.now) (length mate.old) mate.new }
 {
     let n = mate.len();
     for left in 0..n {
+        let block = &mut *tables.block;
         if has_least(rel, left, mate, block) {
             continue;
         }
         let quest = Quest {
+            rel,
             wild: n,
             fixed: left,
             left,
         };
-        if let Placing::Given { sealed } = place(rel, quest, mate, block, marks, seen, work) {
-            split(block, work, sealed, left + 1);
-        }
+        let Ok(Some(sealed)) = place(&quest, mate, tables) else {
+            continue;
+        };
+        split(tables.block, tables.work.first(sealed), left + 1);
     }
 }
 
@@ -174,25 +137,17 @@ fn refine<R: Relation>(
 pub fn first_matching<R: Relation>(
     rel: &R,
     mate: &mut [usize],
-    block: &mut [usize],
-    marks: &mut [u8],
-    work: &mut WorkList,
-) -> Matched
-    requires size { (length mate.old ≡ R.Relation.size rel.now) × ((length block.old ≡ R.Relation.size rel.now) × (R.Relation.size rel.now ≤ length marks.old)) }
-    requires room { Room (R.Relation.size rel.now) work.old }
-    requires clear { Clear marks.old (R.Relation.size rel.now) }
-    ensures answer { Answer (R.Relation.allowed rel.now) (R.Relation.size rel.now) mate.new (members_of work.new) result }
+    tables: &mut Tables,
+) -> Result<(), Blockers>
+    requires size { length mate.old ≡ R.Relation.size rel.now }
+    requires ready { Ready (R.Relation.size rel.now) tables.old }
+    ensures answer { Answer (R.Relation.allowed rel.now) (R.Relation.size rel.now) mate.new (members_of tables.new.work.now) result }
     ensures exactly { Exactly (R.Relation.allowed rel.now) (R.Relation.size rel.now) result }
-    ensures regular { RegularCounts (R.Relation.allowed rel.now) (R.Relation.size rel.now) → result ≡ Matched.Found }
-    ensures marks { marks.new ≡ marks.old }
-    ensures room { SameRoom work.old work.new }
+    ensures regular { RegularCounts (R.Relation.allowed rel.now) (R.Relation.size rel.now) → IsOk result }
+    ensures kept { Kept tables.old tables.new }
 {
-    unite(block);
-    let mut notes = [0; NOTES];
-    let seen = &mut notes[..mate.len().min(NOTES)];
-    if let Matched::Blocked(count) = settle(rel, mate, block, marks, seen, work) {
-        return Matched::Blocked(count);
-    }
-    refine(rel, mate, block, marks, seen, work);
-    Matched::Found
+    tables.block.fill(0);
+    settle(rel, mate, tables)?;
+    refine(rel, mate, tables);
+    Ok(())
 }

@@ -7,17 +7,6 @@ pub struct Ticks<'a> {
     pub count: usize,
 }
 
-// Zero into each of the first `count` marks.
-pub fn clear(marks: &mut [u8], count: usize)
-    requires { count ≤ length marks.old }
-    ensures zero { Clear marks.new count }
-    ensures rest { Beyond count marks.old marks.new }
-{
-    for k in 0..count {
-        marks[k] = 0;
-    }
-}
-
 impl Drop for Ticks<'_> {
     fn drop(self)
         requires { self.count ≤ length self.marks.now }
@@ -26,6 +15,6 @@ impl Drop for Ticks<'_> {
         ensures rest { Beyond self.entry.count self.entry.marks.now self.exit.0.now }
     {
         let Ticks { marks, count } = self;
-        clear(marks, count);
+        marks[..count].fill(0);
     }
 }

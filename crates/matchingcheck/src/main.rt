@@ -2,9 +2,9 @@
 // right members in dictionary order, and takes the first one that is a perfect matching. The marks must come back clear.
 #![tactic(auto)]
 
-ghost use Rattle.std.specs.Prelude.{◌≡◌, ◌+◌, ◌*◌, ◌<◌, ◌≤◌, length};
-ghost use Rattle.matchings.specs.Reaching.{Clear};
+ghost use Rattle.std.specs.Prelude.{◌<◌, ◌≤◌};
 
+use matching::{Entry, Tables, WorkList};
 use matchingtext::{TextTable, first_in};
 use std::io;
 
@@ -13,134 +13,84 @@ const MOST: usize = 4;
 const CELLS: usize = 20;
 
 // The relation of the given number: bit k of it says of row k / n and column k % n.
-fn write_cells(number: u32, n: usize, cells: &mut [u8]) {
+fn write_cells(number: u32, n: usize, cells: &mut [u8])
+    requires { n ≤ 4 }
+{
     let mut bits = number;
-    let mut at = 0usize;
-    for _ in 0..n {
-        for _ in 0..n {
-            if at < cells.len() {
-                cells[at] = if bits % 2 == 1 { b'1' } else { b'0' };
-                at += 1;
-            }
+    for row in cells.chunks_mut(n + 1).take(n) {
+        for cell in row.iter_mut().take(n) {
+            *cell = if bits % 2 == 1 { b'1' } else { b'0' };
             bits /= 2;
-        }
-        if at < cells.len() {
-            cells[at] = b'\n';
-            at += 1;
         }
     }
 }
 
 // The list of right members of the given number: its digits in base n.
-fn write_list(number: usize, n: usize, rights: &mut [usize])
-    requires { 0 < n }
+fn list(number: usize, n: usize) -> [usize; MOST]
+    requires { (0 < n) × (n ≤ 4) }
 {
+    let mut rights = [0; MOST];
     let mut rest = number;
-    for right in rights.iter_mut().rev() {
+    for right in rights[..n].iter_mut().rev() {
         *right = rest % n;
         rest /= n;
     }
+    rights
 }
 
 // Whether the left members have right members of their own that they allow.
-fn is_perfect(cells: &[u8], n: usize, rights: &[usize]) -> bool {
-    let mut row = 0usize;
-    for (l, right) in rights.iter().enumerate() {
-        if cells.get(row.saturating_add(*right)) != Some(&b'1') {
-            return false;
-        }
-        for other in rights.iter().take(l) {
-            if *other == *right {
-                return false;
-            }
-        }
-        row = row.saturating_add(n).saturating_add(1);
-    }
-    true
+fn is_perfect(cells: &[u8], n: usize, rights: &[usize]) -> bool
+    requires { n ≤ 4 }
+{
+    let allowed = cells
+        .chunks(n + 1)
+        .zip(rights)
+        .all(|(row, right)| row.get(*right) == Some(&b'1'));
+    let apart = rights
+        .iter()
+        .enumerate()
+        .all(|(l, right)| rights.iter().take(l).all(|other| *other != *right));
+    allowed && apart
 }
 
 // The first perfect matching, by trying all lists.
-fn brute(cells: &[u8], n: usize, rights: &mut [usize]) -> bool
-    requires { 0 < n }
+fn brute(cells: &[u8], n: usize) -> Option<[usize; MOST]>
+    requires { (0 < n) × (n ≤ 4) }
 {
     let lists = [1usize, 4, 27, 256];
-    let count = lists.get(n - 1).copied().unwrap_or(0);
-    for number in 0..count {
-        write_list(number, n, rights);
-        if is_perfect(cells, n, rights) {
-            return true;
-        }
-    }
-    false
+    (0..lists[n - 1])
+        .map(|number| list(number, n))
+        .find(|rights| is_perfect(cells, n, &rights[..n]))
 }
 
-// What came of one relation: whether the search answers what brute force finds and leaves the marks clear, and whether
-// there is a perfect matching.
-#[derive(Clone, Copy)]
-struct Trial {
-    agrees: bool,
-    fillable: bool,
-}
+// The search does not answer what brute force finds, or leaves marks behind.
+struct Mismatch;
 
-fn all_zero(marks: &[u8]) -> bool {
-    for mark in marks {
-        if *mark != 0 {
-            return false;
-        }
-    }
-    true
-}
-
-fn same_lists(a: &[usize], b: &[usize]) -> bool {
-    a == b
-}
-
-// One relation, by tables that are lent; `expected` is brute force's.
-fn compare(
-    cells: &[u8],
-    n: usize,
-    expected: &mut [usize],
-    mate: &mut [usize],
-    block: &mut [usize],
-    marks: &mut [u8],
-    members: &mut [usize],
-    parents: &mut [usize],
-) -> Trial
-    requires size { (0 < n) × ((n * (n + 1) ≤ length cells.now) × ((length mate.old ≡ n) × (length block.old ≡ n))) }
-    requires room { (n ≤ length marks.old) × ((n ≤ length members.old) × (n ≤ length parents.old)) }
-    requires clear { Clear marks.old n }
-{
-    let fillable = brute(cells, n, expected);
-    let table = TextTable::new(cells, n);
-    let found = first_in(&table, mate, block, marks, members, parents);
-    let same = found == fillable && (!found || same_lists(mate, expected));
-    Trial {
-        agrees: same && all_zero(marks),
-        fillable,
-    }
-}
-
-fn try_one(number: u32, n: usize) -> Trial
+// Whether one relation has a perfect matching, as the search and brute force both say.
+fn try_one(number: u32, n: usize) -> Result<bool, Mismatch>
     requires { (0 < n) × (n ≤ 4) }
 {
     let mut cells = [b'\n'; CELLS];
-    let mut expected = [0usize; MOST];
     let mut mate = [0usize; MOST];
     let mut block = [0usize; MOST];
     let mut marks = [0u8; MOST];
-    let mut members = [0usize; MOST];
-    let mut parents = [0usize; MOST];
+    let mut entries = [Entry::default(); MOST];
     write_cells(number, n, &mut cells);
-    compare(
-        &cells,
-        n,
-        &mut expected[0..n],
-        &mut mate[0..n],
-        &mut block[0..n],
-        &mut marks,
-        &mut members,
-        &mut parents,
-    )
+    let mut work = WorkList::over(&mut entries);
+    let mut tables = Tables {
+        block: &mut block[..n],
+        marks: &mut marks,
+        work: &mut work,
+    };
+    let table = TextTable::new(&cells, n);
+    let found = first_in(&table, &mut mate[..n], &mut tables).is_ok();
+    let expected = brute(&cells, n);
+    let clear = marks.iter().all(|mark| *mark == 0);
+    if clear && found.then_some(mate) == expected {
+        Ok(found)
+    } else {
+        Err(Mismatch)
+    }
 }
 
 // All relations of n members.
@@ -149,13 +99,10 @@ fn try_all(rt: HostRuntime, n: usize, relations: u32) -> io::Result<()>
 {
     let mut fillable = 0u32;
     for number in 0..relations {
-        let trial = try_one(number, n);
-        if !trial.agrees {
+        let Ok(matched) = try_one(number, n) else {
             return println!(rt; "n {n}: relation {number} is not as brute force finds");
-        }
-        if trial.fillable {
-            fillable = fillable.saturating_add(1);
-        }
+        };
+        fillable = fillable.saturating_add(u32::from(matched));
     }
     println!(rt; "n {n}: {relations} relations, {fillable} fillable, all as brute force finds")
 }

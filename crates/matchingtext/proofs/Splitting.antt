@@ -1,18 +1,19 @@
 -- Classes of columns, split row by row.
-use Rattle.std.proofs.Common.{◌≡◌, ℕ, ◌+◌, ◌<◌, ◌≤◌, Bool, true, false, not, ◌≢◌, ◌⊎◌, List, ◌++◌, length, take, set, sym, refl, ap, ◌∙◌, subst, inl, inr, ⊎_elim, true≢false, arith, take_all, get_or-set_other, get_or-set_same}
+use Rattle.std.proofs.Common.{◌≡◌, ℕ, ◌+◌, ◌<◌, ◌≤◌, Bool, true, false, not, ◌≢◌, ◌⊎◌, List, ◌++◌, Option, Some, None, get_or, unwrap_or, length, take, set, sym, refl, ap, ◌∙◌, subst, inl, inr, ⊎_elim, true≢false, arith, take_all, get_or-set_other, get_or-set_same}
 use mathlib.Core.Bool.{beq}
 use lib.Seq.{take-append-le}
 use Rattle.std.proofs.lemmas.Bool.{cases_eq}
 use Rattle.std.proofs.Math.Bool.{Bool-set}
 use Rattle.std.proofs.Math.Logic.{∥∥₁_elim}
 use Rattle.matchings.specs.Matchings.{◌!◌}
-use Rattle.matchings.specs.Reaching.{IsClass}
+use Rattle.matchings.specs.Reaching.{Clear, IsClass}
 use Rattle.matchingtext.specs.Sheets.{allowed_by}
-use Rattle.matchingtext.specs.Classes.{Filled, SplitBy, AlikeColumns}
+use Rattle.matchingtext.specs.Classes.{Twinless, SplitBy, AlikeColumns}
 
--- the twin t of a class k, if there is one: it was of class k, and differs from k in this row
-abbrev pub Twin : (ℕ → Bool) → ℕ → List ℕ → ℕ → ℕ → Type 0
-Twin ones n old k t = (t ≡ n) ⊎ ((t < n) × (old ! t ≡ k) × (ones t ≡ not (ones k)))
+-- the twin of a class k, if there is one: it was of class k, and differs from k in this row
+abbrev pub Twin : (ℕ → Bool) → ℕ → List ℕ → ℕ → Option ℕ → Type 0
+Twin ones n old k None = Unit {0}
+Twin ones n old k (Some t) = (t < n) × (old ! t ≡ k) × (ones t ≡ not (ones k))
 
 -- what column c has come to, in this row
 pub record Sorted (ones : ℕ → Bool) (n : ℕ) (old : List ℕ) (c now : ℕ) : Type 0 where
@@ -21,16 +22,16 @@ pub record Sorted (ones : ℕ → Bool) (n : ℕ) (old : List ℕ) (c now : ℕ)
   pub kin : (now ≡ old ! c) ⊎ (old ! now ≡ old ! c)
 
 -- the first c columns are sorted, the others as they were
-pub record Splitting (ones : ℕ → Bool) (n : ℕ) (old new twins : List ℕ) (c : ℕ) : Type 0 where
+pub record Splitting (ones : ℕ → Bool) (n : ℕ) (old new : List ℕ) (twins : List (Option ℕ)) (c : ℕ) : Type 0 where
   pub sorted : (j : ℕ) → j < c → Sorted ones n old j (new ! j)
   pub rest : (j : ℕ) → c ≤ j → new ! j ≡ old ! j
-  pub twin : (k : ℕ) → k < n → Twin ones n old k (twins ! k)
+  pub twin : (k : ℕ) → k < n → Twin ones n old k (get_or twins k None)
 
-pub splitting_none : (ones : ℕ → Bool) (n : ℕ) (old twins : List ℕ) → Filled n n twins → Splitting ones n old old twins 0
+pub splitting_none : (ones : ℕ → Bool) (n : ℕ) (old : List ℕ) (twins : List (Option ℕ)) → Twinless n twins → Splitting ones n old old twins 0
 splitting_none ones n old twins fresh =
-    record { sorted = λ j h. absurd (omega arith); rest = λ j h. refl; twin = λ k h. inl (fresh k h) }
+    record { sorted = λ j h. absurd (omega arith); rest = λ j h. refl; twin = λ k h. rw (fresh k h) tt }
 
-module _ (ones : ℕ → Bool) (n : ℕ) (old new twins : List ℕ) (c : ℕ) (s : Splitting ones n old new twins c) (lc : c < n) (long : length new ≡ n) where
+module _ (ones : ℕ → Bool) (n : ℕ) (old new : List ℕ) (twins : List (Option ℕ)) (c : ℕ) (s : Splitting ones n old new twins c) (lc : c < n) (long : length new ≡ n) where
   -- column c agrees with its class, and keeps it
   pub splitting_keeps : old ! c < n → ones c ≡ ones (new ! c) → Splitting ones n old new twins (c + 1)
   splitting_keeps lk same = record {
@@ -43,7 +44,7 @@ module _ (ones : ℕ → Bool) (n : ℕ) (old new twins : List ℕ) (c : ℕ) (s
   }
 
   -- column c goes to t, with other twins
-  module _ (t : ℕ) (twins' : List ℕ) (to : Sorted ones n old c t) (others : (k : ℕ) → k < n → Twin ones n old k (twins' ! k)) where
+  module _ (t : ℕ) (twins' : List (Option ℕ)) (to : Sorted ones n old c t) (others : (k : ℕ) → k < n → Twin ones n old k (get_or twins' k None)) where
     same_other : (j : ℕ) → j ≢ c → set new c t ! j ≡ new ! j
     same_other j d = get_or-set_other new c j t 0 d
 
@@ -75,7 +76,7 @@ not_same true false d = refl
 not_same false true d = refl
 not_same false false d = absurd (d refl)
 
-module _ (ones : ℕ → Bool) (n : ℕ) (old new twins : List ℕ) (c class : ℕ) (s : Splitting ones n old new twins c) (lc : c < n) (long : length new ≡ n)
+module _ (ones : ℕ → Bool) (n : ℕ) (old new : List ℕ) (twins : List (Option ℕ)) (c class : ℕ) (s : Splitting ones n old new twins c) (lc : c < n) (long : length new ≡ n)
     (is : class ≡ new ! c) (lk : old ! c < n) where
   was : class ≡ old ! c
   was = is ∙ s.rest c (omega arith)
@@ -86,33 +87,24 @@ module _ (ones : ℕ → Bool) (n : ℕ) (old new twins : List ℕ) (c class : �
   pub split_keeps : ones c ≡ ones class → Splitting ones n old new twins (c + 1)
   split_keeps e = splitting_keeps ones n old new twins c s lc long lk (e ∙ ap ones is)
 
-  -- the first that differs from its class is the twin
-  pub split_first : length twins ≡ n → (ones c ≡ ones class → ⊥) → twins ! class ≡ n
-      → Splitting ones n old (set new c (set twins class c ! class)) (set twins class c) (c + 1)
-  split_first wide d none =
-      let it : set twins class c ! class ≡ c = get_or-set_same twins class c 0 (let z = class_below in omega arith) in
-      subst (λ (x : ℕ). Splitting ones n old (set new c x) (set twins class c) (c + 1)) (sym it)
-      (splitting_moves ones n old new twins c s lc long c (set twins class c)
-      (record { below = lc; agrees = refl; kin = inr refl })
+  -- a column that differs from its class goes to the twin, and is the twin where there is none yet
+  goes : (ones c ≡ ones class → ⊥) → (o : Option ℕ) → Twin ones n old class o → Sorted ones n old c (unwrap_or o c) × Twin ones n old class (Some (unwrap_or o c))
+  goes d None f = (record { below = lc; agrees = refl; kin = inr refl }, (lc, sym was, not_same (ones c) (ones class) d))
+  goes d (Some t) f = (record { below = f.0; agrees = not_same (ones c) (ones class) d ∙ sym f.2; kin = inr (f.1 ∙ was) }, f)
+
+  pub split_moves : length twins ≡ n → (ones c ≡ ones class → ⊥) → (t : ℕ) → t ≡ unwrap_or (get_or twins class None) c
+      → Splitting ones n old (set new c t) (set twins class (Some t)) (c + 1)
+  split_moves wide d t e =
+      let g = goes d (get_or twins class None) (s.twin class class_below) in
+      splitting_moves ones n old new twins c s lc long t (set twins class (Some t))
+      (subst (λ (x : ℕ). Sorted ones n old c x) (sym e) g.0)
       (λ k h. ⊎_elim
-      (λ e. subst (λ (x : ℕ). Twin ones n old k (set twins class c ! x)) (sym e)
-      (subst (λ (x : ℕ). Twin ones n old k x) (sym it) (inr (lc, sym was ∙ sym e, not_same (ones c) (ones k) (λ q. d (q ∙ ap ones e))))))
-      (λ o. subst (λ (x : ℕ). Twin ones n old k x) (sym (get_or-set_other twins class k c 0 o)) (s.twin k h)) (cases_eq k class)))
+      (λ q. subst (λ (x : ℕ). Twin ones n old x (get_or (set twins class (Some t)) x None)) (sym q)
+      (subst (λ (x : Option ℕ). Twin ones n old class x) (sym (get_or-set_same twins class (Some t) None (let z = class_below in omega arith)))
+      (subst (λ (x : ℕ). Twin ones n old class (Some x)) (sym e) g.1)))
+      (λ o. subst (λ (x : Option ℕ). Twin ones n old k x) (sym (get_or-set_other twins class k (Some t) None o)) (s.twin k h)) (cases_eq k class))
 
-  -- the others go to the twin
-  pub split_next : (ones c ≡ ones class → ⊥) → (twins ! class ≡ n → ⊥) → Splitting ones n old (set new c (twins ! class)) twins (c + 1)
-  split_next d some =
-      ⊎_elim (λ e. absurd (some e))
-      (λ f. splitting_moves ones n old new twins c s lc long (twins ! class) twins
-      (record {
-        below = f.0;
-        agrees = not_same (ones c) (ones class) d ∙ sym f.2;
-        kin = inr (f.1 ∙ was);
-      })
-      s.twin)
-      (s.twin class class_below)
-
-pub split_all : (ones : ℕ → Bool) (n : ℕ) (old new twins : List ℕ) (c : ℕ) → n ≤ c → Splitting ones n old new twins c → SplitBy ones n old new
+pub split_all : (ones : ℕ → Bool) (n : ℕ) (old new : List ℕ) (twins : List (Option ℕ)) (c : ℕ) → n ≤ c → Splitting ones n old new twins c → SplitBy ones n old new
 split_all ones n old new twins c all s = record {
   below = λ j h. (s.sorted j (omega arith)).below;
   agrees = λ j h. (s.sorted j (omega arith)).agrees;
@@ -124,7 +116,7 @@ pub record Alike (rows : List ℕ) (n row : ℕ) (classes : List ℕ) : Type 0 w
   pub below : (c : ℕ) → c < n → classes ! c < n
   pub same : (l c : ℕ) → l < row → c < n → allowed_by rows n l c ≡ allowed_by rows n l (classes ! c)
 
-pub alike_none : (rows : List ℕ) (n : ℕ) (classes : List ℕ) → Filled 0 n classes → Alike rows n 0 classes
+pub alike_none : (rows : List ℕ) (n : ℕ) (classes : List ℕ) → Clear classes n → Alike rows n 0 classes
 alike_none rows n classes zero = record { below = λ c h. let z = zero c h in omega arith; same = λ l c h. absurd (omega arith) }
 
 pub alike_more :

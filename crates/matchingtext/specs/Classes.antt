@@ -1,11 +1,11 @@
 -- Classes of columns: each column goes by the number of a column that is the same in every row.
-use Rattle.std.specs.Prelude.{◌≡◌, ℕ, ◌<◌, Bool, ◌⊎◌, List, ◌==◌}
+use Rattle.std.specs.Prelude.{◌≡◌, ℕ, ◌<◌, Bool, ◌⊎◌, List, Option, None, slice_index_or, ◌==◌}
 use Rattle.matchings.specs.Matchings.{◌!◌}
 use Rattle.matchingtext.specs.Sheets.{allowed_by}
 
--- the first n numbers are all x
-abbrev pub Filled : ℕ → ℕ → List ℕ → Type 0
-Filled x n table = (k : ℕ) → k < n → table ! k ≡ x
+-- none of the first n classes has a twin
+abbrev pub Twinless : ℕ → List (Option ℕ) → Type 0
+Twinless n twins = (k : ℕ) → k < n → slice_index_or twins k None ≡ None
 
 -- whether a character of a row is a 1
 abbrev pub one : List ℕ → ℕ → Bool

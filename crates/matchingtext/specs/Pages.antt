@@ -1,4 +1,4 @@
--- Where in a text a relation stands.
+-- The relation at the front of a text.
 use Rattle.std.specs.Prelude.{◌≡◌, ℕ, ◌+◌, ◌-◌, ◌*◌, ◌<◌, ◌≤◌, List, length, take, drop, Some, None, Option}
 use Rattle.matchingtext.specs.Sheets.{LineEnd, Numeral, written, Rows}
 use Rattle.matchingtext.specs.declared.reading.Sheet.{Sheet}
@@ -15,15 +15,17 @@ pub record Stands (text : List ℕ) (at end n : ℕ) : Type 0 where
   pub size : n ≡ written (part text at end)
   pub rows : Rows text (end + 1) n
 
--- the sheet is that of the relation at `at`; or none stands there
-pub record Found (text : List ℕ) (at : ℕ) (s : Sheet) : Type 0 where
+-- the sheet has the table of the relation at the front of the text, and what follows it
+pub record Found (text : List ℕ) (s : Sheet) : Type 0 where
   pub end : ℕ
-  pub stands : Stands text at end s.count
-  pub from : s.from ≡ end + 1
-  pub to : s.to ≡ s.from + s.count * (s.count + 1)
-  pub fits : s.to ≤ length text
-  pub ahead : at < s.to
+  pub to : ℕ
+  pub stands : Stands text 0 end s.table.count
+  pub ends : to ≡ end + 1 + s.table.count * (s.table.count + 1)
+  pub fits : to ≤ length text
+  pub rows : s.table.rows.now ≡ part text (end + 1) to
+  pub rest : s.rest.now ≡ drop to text
 
-abbrev pub At : (text : List ℕ) (at : ℕ) → Option Sheet → Type 0
-At text at None = (end n : ℕ) → Stands text at end n → ⊥
-At text at (Some s) = Found text at s
+-- the sheet that is found; or none stands there
+abbrev pub Front : (text : List ℕ) → Option Sheet → Type 0
+Front text None = (end n : ℕ) → Stands text 0 end n → ⊥
+Front text (Some s) = Found text s

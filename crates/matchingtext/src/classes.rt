@@ -1,20 +1,11 @@
 ghost use Rattle.std.specs.Prelude.{◌≡◌, ℕ, ◌+◌, ◌*◌, ◌<◌, ◌≤◌, length, vec_items, vec_len, ◌==◌, IfOk};
 ghost use Rattle.matchings.specs.Matchings.{◌!◌};
 ghost use Rattle.matchingtext.specs.Sheets.{allowed_by};
-ghost use Rattle.matchingtext.specs.Classes.{Filled, one, SplitBy, AlikeColumns};
+ghost use Rattle.matchingtext.specs.Classes.{one, Twinless, SplitBy, AlikeColumns};
 
 use crate::table::TextTable;
 use matching::Relation;
 use std::alloc::{AllocError, Global};
-
-// The same number into each place.
-fn fill(table: &mut [usize], number: usize)
-    ensures { Filled number (length table.old) table.new }
-{
-    for k in 0..table.len() {
-        table[k] = number;
-    }
-}
 
 fn is_one(character: u8) -> bool
     ensures { result ≡ (character == 49) }
@@ -23,35 +14,32 @@ fn is_one(character: u8) -> bool
 }
 
 // Splits the classes by one row: a column that differs there from the column that its class is named after moves to a new
-// class, named after the first that does. `twins` has these by the old class; its own length says that there is none yet.
-fn split_by(row: &[u8], classes: &mut [usize], twins: &mut [usize])
+// class, its twin, named after the first that does. `twins` has these by the old class.
+fn split_by(row: &[u8], classes: &mut [usize], twins: &mut [Option<usize>])
     requires size { (length classes.old ≡ length row.now) × (length twins.old ≡ length row.now) }
     requires below { (c : ℕ) → c < length row.now → classes.old ! c < length row.now }
-    requires fresh { Filled (length row.now) (length row.now) twins.old }
+    requires fresh { Twinless (length row.now) twins.old }
     ensures { SplitBy (one row.now) (length row.now) classes.old classes.new }
 {
-    let none = row.len();
-    for c in 0..row.len() {
-        let class = classes[c];
-        if is_one(row[c]) != is_one(row[class]) {
-            if twins[class] == none {
-                twins[class] = c;
-            }
-            classes[c] = twins[class];
+    for (c, class) in classes.iter_mut().enumerate() {
+        if is_one(row[c]) != is_one(row[*class]) {
+            let twin = twins[*class].unwrap_or(c);
+            twins[*class] = Some(twin);
+            *class = twin;
         }
     }
 }
 
 // Gives each column of a relation the number of a column that is the same in every row, its class.
-fn find_classes(rows: &[u8], count: usize, classes: &mut [usize], twins: &mut [usize])
+fn find_classes(rows: &[u8], count: usize, classes: &mut [usize], twins: &mut [Option<usize>])
     requires rows { count * (count + 1) ≤ length rows.now }
     requires size { (length classes.old ≡ count) × (length twins.old ≡ count) }
     ensures { AlikeColumns rows.now count classes.new }
 {
-    fill(classes, 0);
+    classes.fill(0);
     for row in 0..count {
         let from = row * (count + 1);
-        fill(twins, count);
+        twins.fill(None);
         split_by(&rows[from..from + count], classes, twins);
     }
 }
@@ -61,7 +49,7 @@ pub fn classes_of(heap: Global, table: &TextTable) -> Result<Vec<usize>, AllocEr
     ensures { IfOk result (λ classes. (vec_len classes ≡ table.now.count) × AlikeColumns table.now.rows.now table.now.count (vec_items classes)) }
 {
     let mut classes = vec![in heap; 0usize; table.count]?;
-    let mut twins = vec![in heap; 0usize; table.count]?;
+    let mut twins = vec![in heap; None; table.count]?;
     find_classes(table.rows, table.count, &mut classes, &mut twins);
     Ok(classes)
 }

@@ -10,6 +10,6 @@ mod reading;
 mod solving;
 mod table;
 
-pub use reading::{Sheet, sheet_at};
+pub use reading::{Sheet, first_sheet};
 pub use solving::{first_in, solve};
 pub use table::TextTable;

@@ -1,34 +1,30 @@
-ghost use Rattle.std.specs.Prelude.{◌≡◌, ◌<◌, ◌≤◌, length, Decides};
+ghost use Rattle.std.specs.Prelude.{◌≡◌, ℕ, ◌<◌, ◌≤◌, length, Decides, MatchOption};
+ghost use Rattle.matchings.specs.Matchings.{◌!◌};
 ghost use Rattle.matchingtext.specs.Sheets.{LineEnd, Read, Row, Ends};
-ghost use Rattle.matchingtext.specs.Pages.{At};
+ghost use Rattle.matchingtext.specs.Pages.{Front};
 
-// Where the line that begins at `from` ends: at its newline, or where the text ends.
-fn line_end(text: &[u8], from: usize) -> usize
-    requires { from ≤ length text.now }
-    ensures { LineEnd text.now from result }
+use crate::table::TextTable;
+
+// Where the first line ends: at its newline.
+fn line_end(text: &[u8]) -> Option<usize>
+    ensures { MatchOption result ((k : ℕ) → k < length text.now → text.now ! k ≡ 10 → ⊥) (λ end. (end < length text.now) × LineEnd text.now 0 end) }
 {
-    for at in from..text.len() {
-        if text[at] == b'\n' {
-            return at;
-        }
-    }
-    text.len()
+    text.iter().position(|byte| *byte == b'\n')
 }
 
 // The number that up to nine decimal digits write.
 fn numeral(digits: &[u8]) -> Option<usize>
     ensures { Read digits.now result }
 {
-    if digits.len() == 0 || digits.len() > 9 {
+    if digits.is_empty() || digits.len() > 9 {
         return None;
     }
     let mut n = 0usize;
-    for k in 0..digits.len() {
-        let digit = digits[k];
-        if digit < b'0' || digit > b'9' {
+    for digit in digits {
+        if !matches!(*digit, b'0'..=b'9') {
             return None;
         }
-        n = n * 10 + (digit - b'0') as usize;
+        n = n * 10 + usize::from(*digit - b'0');
     }
     Some(n)
 }
@@ -41,9 +37,8 @@ fn is_row(text: &[u8], at: usize, n: usize) -> bool
     if n >= text.len() - at {
         return false;
     }
-    for k in 0..n {
-        let bit = text[at + k];
-        if bit != b'0' && bit != b'1' {
+    for bit in &text[at..at + n] {
+        if !matches!(*bit, b'0' | b'1') {
             return false;
         }
     }
@@ -65,28 +60,23 @@ fn rows_end(text: &[u8], from: usize, n: usize) -> Option<usize>
     Some(at)
 }
 
-// A relation in a text: its size, and where its rows begin and end.
-#[derive(Clone, Copy)]
-pub struct Sheet {
-    pub count: usize,
-    pub from: usize,
-    pub to: usize,
+// A relation at the front of a text, and what follows it.
+#[derive(Drop)]
+pub struct Sheet<'a> {
+    pub table: TextTable<'a>,
+    pub rest: &'a [u8],
 }
 
-// The relation whose first line begins at `at`.
-pub fn sheet_at(text: &[u8], at: usize) -> Option<Sheet>
-    requires { at < length text.now }
-    ensures { At text.now at result }
+// The relation at the front of a text.
+pub fn first_sheet(text: &[u8]) -> Option<Sheet<'_>>
+    ensures { Front text.now result }
 {
-    let end = line_end(text, at);
-    if end == text.len() {
-        return None;
-    }
-    let count = numeral(&text[at..end])?;
+    let end = line_end(text)?;
+    let count = numeral(&text[..end])?;
     let to = rows_end(text, end + 1, count)?;
+    let table = TextTable::new(&text[end + 1..to], count);
     Some(Sheet {
-        count,
-        from: end + 1,
-        to,
+        table,
+        rest: &text[to..],
     })
 }

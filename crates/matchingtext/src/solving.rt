@@ -1,34 +1,26 @@
-ghost use Rattle.std.specs.Prelude.{◌≡◌, ◌≤◌, length, IfOk, MatchBool};
+ghost use Rattle.std.specs.Prelude.{◌≡◌, length, IfOk, MatchResult};
 ghost use Rattle.matchings.specs.Matchings.{First};
-ghost use Rattle.matchings.specs.Reaching.{Clear};
+ghost use Rattle.matching.specs.Tables.{Ready, Kept};
 ghost use Rattle.matchingtext.specs.Sheets.{allowed_by};
 ghost use Rattle.matchingtext.specs.Solutions.{Unmatched, Solved};
 
 use crate::classes::{ClassedTable, classes_of};
 use crate::table::TextTable;
-use matching::{Matched, Relation, WorkList, first_matching};
+use matching::{Blockers, Entry, Relation, Tables, WorkList, first_matching};
 use std::alloc::{AllocError, Global};
 
-// Whether a relation has a perfect matching; the first one comes into `mate`. The other tables are lent for the work.
-fn find_first<R: Relation>(
+// The first perfect matching of a relation, into `mate`, if it has one. The other tables are lent for the work.
+pub fn first_in<R: Relation>(
     rel: &R,
     mate: &mut [usize],
-    block: &mut [usize],
-    marks: &mut [u8],
-    members: &mut [usize],
-    parents: &mut [usize],
-) -> bool
-    requires size { (length mate.old ≡ R.Relation.size rel.now) × (length block.old ≡ R.Relation.size rel.now) }
-    requires room { (R.Relation.size rel.now ≤ length marks.old) × ((R.Relation.size rel.now ≤ length members.old) × (R.Relation.size rel.now ≤ length parents.old)) }
-    requires clear { Clear marks.old (R.Relation.size rel.now) }
-    ensures found { MatchBool result (First (R.Relation.allowed rel.now) (R.Relation.size rel.now) mate.new) (Unmatched (R.Relation.allowed rel.now) (R.Relation.size rel.now)) }
-    ensures marks { marks.new ≡ marks.old }
+    tables: &mut Tables,
+) -> Result<(), Blockers>
+    requires size { length mate.old ≡ R.Relation.size rel.now }
+    requires ready { Ready (R.Relation.size rel.now) tables.old }
+    ensures found { MatchResult result (λ _. First (R.Relation.allowed rel.now) (R.Relation.size rel.now) mate.new) (λ _. Unmatched (R.Relation.allowed rel.now) (R.Relation.size rel.now)) }
+    ensures kept { Kept tables.old tables.new }
 {
-    let mut work = WorkList::over(members, parents);
-    match first_matching(rel, mate, block, marks, &mut work) {
-        Matched::Found => true,
-        Matched::Blocked(_) => false,
-    }
+    first_matching(rel, mate, tables)
 }
 
 // The first perfect matching of a relation of `n` members, by tables that are made for it; none where there is none.
@@ -39,38 +31,17 @@ fn first_of<R: Relation>(heap: Global, rel: &R, n: usize) -> Result<Option<Vec<u
     let mut mate = vec![in heap; 0usize; n]?;
     let mut block = vec![in heap; 0usize; n]?;
     let mut marks = vec![in heap; 0u8; n]?;
-    let mut members = vec![in heap; 0usize; n]?;
-    let mut parents = vec![in heap; 0usize; n]?;
-    if find_first(
-        rel,
-        &mut mate,
-        &mut block,
-        &mut marks,
-        &mut members,
-        &mut parents,
-    ) {
-        Ok(Some(mate))
-    } else {
-        Ok(None)
+    let mut entries = vec![in heap; Entry::default(); n]?;
+    let mut work = WorkList::over(&mut entries);
+    let mut tables = Tables {
+        block: &mut block,
+        marks: &mut marks,
+        work: &mut work,
+    };
+    match first_in(rel, &mut mate, &mut tables) {
+        Ok(()) => Ok(Some(mate)),
+        Err(_) => Ok(None),
     }
-}
-
-// Whether there is a perfect matching; the first one comes into `mate`. The other tables are lent for the work.
-pub fn first_in(
-    table: &TextTable,
-    mate: &mut [usize],
-    block: &mut [usize],
-    marks: &mut [u8],
-    members: &mut [usize],
-    parents: &mut [usize],
-) -> bool
-    requires size { (length mate.old ≡ table.now.count) × (length block.old ≡ table.now.count) }
-    requires room { (table.now.count ≤ length marks.old) × ((table.now.count ≤ length members.old) × (table.now.count ≤ length parents.old)) }
-    requires clear { Clear marks.old table.now.count }
-    ensures found { MatchBool result (First (allowed_by table.now.rows.now table.now.count) table.now.count mate.new) (Unmatched (allowed_by table.now.rows.now table.now.count) table.now.count) }
-    ensures marks { marks.new ≡ marks.old }
-{
-    find_first(table, mate, block, marks, members, parents)
 }
 
 // The first perfect matching, by tables that are made for it; none where there is none.

@@ -1,13 +1,13 @@
 -- One row given out, and one after another.
-use Rattle.std.proofs.Common.{◌≡◌, ℕ, ◌+◌, ◌*◌, ◌<◌, ◌≤◌, Bool, ◌&&◌, eqb, ltb, leb, ◌≢◌, ◌⊎◌, List, [], length, get_or, set, sym, refl, ap, ◌∙◌, subst, inl, inr, ⊎_elim, mul_comm, arith, length-set, get_or-set_other, get_or-set_same}
+use Rattle.std.proofs.Common.{◌≡◌, ℕ, ◌+◌, ◌*◌, ◌<◌, ◌≤◌, Bool, ◌&&◌, eqb, ltb, leb, ◌≢◌, ◌⊎◌, List, [], length, get_or, set, sym, refl, ap, ◌∙◌, subst, inl, inr, ⊎_elim, mul_comm, arith, length-set, get_or-set_other, get_or-set_same, Result, Ok, Err, IsOk}
 use Rattle.std.proofs.lemmas.Bool.{cases_eq, cases_lt, and_from, and_parts, eq-eqb, eqb-true, le-leb, leb-true, ltb-true}
 use Rattle.grid.specs.declared.sides.Sides.{Sides}
 use Rattle.grid.specs.declared.slot.Slot.{Slot}
 use Rattle.grid.specs.Sides.{row_count}
 use Rattle.matchings.specs.Matchings.{◌!◌, Perfect, First}
 use Rattle.matchings.specs.Regular.{RegularCounts}
-use Rattle.matching.specs.declared.search.Matched.{Matched}
-use Rattle.matching.specs.declared.search.Matched.TheVariants.{Found}
+use Rattle.std.specs.Prelude.{⊤}
+use Rattle.matching.specs.declared.search.Blockers.{Blockers}
 use Rattle.matching.specs.Answers.{Answer}
 use Rattle.motion.specs.Carrying.{InSlots}
 use Rattle.course.specs.declared.route.Route.{Route}
@@ -333,19 +333,15 @@ module _ (a b : List Route) (r n : ℕ) (E : Unplacing a b r n) (l : n < length 
       }
 
 -- what the search for a matching answers where the counts by bay are regular
-pub matched :
-    (A B : ℕ → ℕ → Bool) (n w : ℕ) (m members : List ℕ) (r : Matched)
-    → n ≡ w
-    → ((j g : ℕ) → j < w → g < w → A j g ≡ B j g)
-    → RegularCounts A w
-    → (RegularCounts B n → r ≡ Found)
-    → Answer B n m members r
-    → First A w m
-matched A B n w m members r e same L sure found =
-    let K : RegularCounts B w = record { table = L.table; sum = L.sum; regular = L.regular; is = λ j g lj lg. sym (same j g lj lg) ∙ L.is j g lj lg } in
-    let t : r ≡ Found = sure (subst (λ (i : ℕ). RegularCounts B i) (sym e) K) in
-    let F : First B n m = subst (λ (u : Matched). Answer B n m members u) t found in
-    first_agree B A w m (λ i j li lj. sym (same i j li lj)) (subst (λ (i : ℕ). First B i m) e F)
+module _ (A B : ℕ → ℕ → Bool) (n w : ℕ) (e : n ≡ w) (same : (j g : ℕ) → j < w → g < w → A j g ≡ B j g) where
+  pub counts_regular : RegularCounts A w → RegularCounts B n
+  counts_regular L =
+      let K : RegularCounts B w = record { table = L.table; sum = L.sum; regular = L.regular; is = λ j g lj lg. sym (same j g lj lg) ∙ L.is j g lj lg } in
+      subst (λ (i : ℕ). RegularCounts B i) (sym e) K
+
+  pub matched : (m members : List ℕ) (r : Result ⊤ Blockers) → IsOk r → Answer B n m members r → First A w m
+  matched m members (Ok _) found F = first_agree B A w m (λ i j li lj. sym (same i j li lj)) (subst (λ (i : ℕ). First B i m) e F)
+  matched m members (Err b) found F = cc
 
 -- the table allows the pairs of bays for which one waits
 pub table_is :

@@ -1,5 +1,8 @@
 -- What the search answers of a rule, and what goals and middle rows make together: the plan of the rule.
-use Rattle.std.proofs.Common.{◌≡◌, ℕ, ◌≤◌, Bool, List, length, take, sym, refl, ap, ◌∙◌, subst, arith, length-take}
+use Rattle.std.proofs.Common.{◌≡◌, ℕ, ◌≤◌, Bool, true, false, Result, Ok, Err, is_err, List, length, take, sym, refl, ap, ◌∙◌, subst, arith, length-take}
+use Rattle.std.specs.Prelude.{⊤}
+use Rattle.matching.specs.declared.search.Blockers.{Blockers}
+use Rattle.matching.specs.Answers.{Answer}
 use Rattle.grid.specs.declared.sides.Sides.{Sides}
 use Rattle.grid.specs.declared.slot.Slot.{Slot}
 use Rattle.grid.specs.declared.square.Square.{Square}
@@ -29,6 +32,16 @@ take_fit n xs h = simp length-take (omega arith)
 pub first_inj : (A : ℕ → ℕ → Bool) (n : ℕ) (m : List ℕ) → First A n m → Inj (length m) (λ s. m ! s)
 first_inj A n m F =
     subst (λ (x : ℕ). Inj x (λ s. m ! s)) (sym F.perfect.long) (record { below = F.perfect.below; apart = F.perfect.apart })
+
+-- what was answered, where it is known whether a matching was found
+pub answered_first : (A : ℕ → ℕ → Bool) (n : ℕ) (m members : List ℕ) (r : Result ⊤ Blockers) → is_err r ≡ false → Answer A n m members r → First A n m
+answered_first A n m members (Ok _) e a = a
+answered_first A n m members (Err b) e a = cc
+
+pub answered_blocked : (A : ℕ → ℕ → Bool) (n : ℕ) (m members : List ℕ) (r : Result ⊤ Blockers) → is_err r ≡ true → Answer A n m members r
+    → (count : ℕ) × Blocking A n members count
+answered_blocked A n m members (Ok _) e a = cc
+answered_blocked A n m members (Err b) e a = (b.count, a)
 
 -- u is the rule's meaning, seen through the relation
 pub assigned_of :

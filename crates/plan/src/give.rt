@@ -24,10 +24,10 @@ fn lowest(routes: &[Route], row: u8, start: usize, goal: usize) -> usize
 {
     let mut best = 0;
     let mut least = u8::MAX;
-    for c in 0..routes.len() {
-        if waits(&routes[c], row, start, goal) && routes[c].start.row < least {
+    for (c, route) in routes.iter().enumerate() {
+        if waits(route, row, start, goal) && route.start.row < least {
             best = c;
-            least = routes[c].start.row;
+            least = route.start.row;
         }
     }
     best
@@ -40,8 +40,8 @@ pub fn give_row(routes: &mut [Route], sides: Sides, row: u8, matching: &[usize])
     requires perfect { Perfect (allows (plan_on sides routes.old) row) sides.width matching.now }
     ensures { Gave sides routes.old routes.new row matching.now }
 {
-    for bay in 0..matching.len() {
-        let carrier = lowest(routes, row, bay, matching[bay]);
+    for (bay, goal) in matching.iter().enumerate() {
+        let carrier = lowest(routes, row, bay, *goal);
         routes[carrier].middle_row = row;
     }
 }
@@ -50,7 +50,7 @@ pub fn give_row(routes: &mut [Route], sides: Sides, row: u8, matching: &[usize])
 pub fn unplace(routes: &mut [Route], rows: u8)
     ensures { Unplaced routes.old routes.new rows }
 {
-    for c in 0..routes.len() {
-        routes[c].middle_row = rows;
+    for route in routes.iter_mut() {
+        route.middle_row = rows;
     }
 }

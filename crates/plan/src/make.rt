@@ -12,12 +12,9 @@ use course::route::Route;
 use grid::sides::Sides;
 use rules::Rule;
 
-// The plan is made; or no assignment fills the slots as the rule asks.
-#[derive(Clone, Copy)]
-pub enum Planning {
-    Made,
-    Unfillable,
-}
+// No assignment fills the slots as the rule asks.
+#[derive(Clone, Copy, Debug, PartialEq, Eq)]
+pub struct Unfillable;
 
 // The plan of the rule for carriers that start where the routes say, into the routes.
 pub fn make_plan<R: Rule>(
@@ -25,7 +22,7 @@ pub fn make_plan<R: Rule>(
     sides: Sides,
     routes: &mut [Route],
     marks: &mut [u8],
-) -> Planning
+) -> Result<(), Unfillable>
     requires rule { ((R.Rule.meaning rule.now).slots ≡ slot_count sides.height sides.width) × ((R.Rule.meaning rule.now).carriers ≡ slot_count sides.height sides.width) }
     requires size { (length routes.old ≡ slot_count sides.height sides.width) × (length routes.old ≤ length marks.old) }
     requires clear { Clear marks.old (length routes.old) }
@@ -34,9 +31,7 @@ pub fn make_plan<R: Rule>(
     ensures unique { PlanIsUnique }
     ensures marks { marks.new ≡ marks.old }
 {
-    if !assign(rule, sides, routes, marks) {
-        return Planning::Unfillable;
-    }
+    assign(rule, sides, routes, marks)?;
     give_middle_rows(routes, sides, marks);
-    Planning::Made
+    Ok(())
 }

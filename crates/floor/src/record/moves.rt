@@ -3,7 +3,7 @@ ghost use Rattle.std.specs.Prelude.{◌≡◌, ℕ, ◌<◌, ◌≤◌, length, 
 ghost use Rattle.grid.specs.declared.heading.Heading.TheVariants.{Stay};
 ghost use Rattle.motion.specs.Plans.{whole};
 ghost use Rattle.course.specs.Routes.{plan_of};
-ghost use Rattle.course.specs.Stages.{motion_of};
+ghost use Rattle.course.specs.Stages.{heading_when};
 ghost use Rattle.chain.specs.Floors.{Sized, slots};
 ghost use Rattle.chain.specs.Calls.{Stepped, Backed};
 ghost use Rattle.floor.specs.Shown.{shown};
@@ -43,7 +43,7 @@ impl Way {
 // Writes every carrier's heading at a moment, of those that stay too.
 fn write_headings(routes: &[Route], moment: Moment, way: Way, headings: &mut [Heading])
     requires { length headings.old ≡ length routes.now }
-    ensures { (h w c : ℕ) → c < length routes.now → slice_index_or headings.new c Stay ≡ way_heading way ((motion_of moment.stage (plan_of h w routes.now)).heading moment.progress c) }
+    ensures { (h w c : ℕ) → c < length routes.now → slice_index_or headings.new c Stay ≡ way_heading way (heading_when moment (plan_of h w routes.now) c) }
 {
     write_each(routes, headings, |route| way.heading(route.heading(moment)));
 }

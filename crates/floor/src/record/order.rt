@@ -1,10 +1,11 @@
 // Orders.
-ghost use Rattle.std.specs.Prelude.{◌≡◌, ℕ, ◌+◌, ◌<◌, min, length, MatchBool, OnErr};
+ghost use Rattle.std.specs.Prelude.{◌≡◌, ℕ, ◌+◌, ◌<◌, min, length, OnErr};
 ghost use Rattle.grid.specs.Sides.{slot_count};
 ghost use Rattle.motion.specs.Carrying.{Good};
 ghost use Rattle.course.specs.Routes.{route_at, plan_of};
 ghost use Rattle.chain.specs.Calls.{AtRest, Clean, RuleFor, Ordered};
 ghost use Rattle.floor.specs.Shown.{shown};
+ghost use Rattle.floor.specs.Telling.{Tells};
 ghost use Rattle.floor.specs.Present.{present};
 
 use super::each::write_each;
@@ -20,14 +21,14 @@ use rules::Rule;
 
 // Whether all marks are zero.
 fn are_clean(marks: &[u8]) -> bool
-    ensures { MatchBool result (Clean marks.now (length marks.now)) (Clean marks.now (length marks.now) → ⊥) }
+    ensures { Tells result (Clean marks.now (length marks.now)) }
 {
     marks.iter().all(|mark| *mark == 0)
 }
 
 // Whether the rule is for so many slots and carriers.
 fn is_for<R: Rule>(rule: &R, slots: usize) -> bool
-    ensures { MatchBool result (RuleFor slots (R.Rule.meaning rule.now)) (RuleFor slots (R.Rule.meaning rule.now) → ⊥) }
+    ensures { Tells result (RuleFor slots (R.Rule.meaning rule.now)) }
 {
     rule.slots() == slots && rule.carriers() == slots
 }
@@ -44,20 +45,17 @@ fn write_starts(routes: &[Route], done: usize, starts: &mut [Route])
     requires { length starts.old ≡ length routes.now }
     ensures { (c : ℕ) → c < length routes.now → (route_at starts.new c).start ≡ present done (route_at routes.now c) }
 {
-    write_each(
-        routes,
-        starts,
-        |route| Route {
-            start: present_slot(route, done),
-            ..NOWHERE
-        },
-    );
+    let start = |route: &Route| Route {
+        start: present_slot(route, done),
+        ..NOWHERE
+    };
+    write_each(routes, starts, start);
 }
 
 impl Floor {
     // Whether the steps done are none or all.
     fn is_at_rest(&self) -> bool
-        ensures { MatchBool result (AtRest (shown self.now)) (AtRest (shown self.now) → ⊥) }
+        ensures { Tells result (AtRest (shown self.now)) }
     {
         self.steps_done == 0 || self.steps_done == self.stages.total()
     }

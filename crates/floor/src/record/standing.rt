@@ -1,9 +1,10 @@
 // Whether a deck stands as the record says.
-ghost use Rattle.std.specs.Prelude.{◌≡◌, ℕ, length, MatchBool};
+ghost use Rattle.std.specs.Prelude.{◌≡◌, ℕ, length};
 ghost use Rattle.course.specs.Routes.{plan_of};
-ghost use Rattle.course.specs.Stages.{motion_of};
+ghost use Rattle.course.specs.Stages.{place_when};
 ghost use Rattle.chain.specs.Floors.{Sized, Stands};
 ghost use Rattle.floor.specs.Shown.{shown};
+ghost use Rattle.floor.specs.Telling.{Tells};
 ghost use Rattle.floor.specs.Standing.{Placed};
 
 use super::Floor;
@@ -14,7 +15,7 @@ use grid::sides::Sides;
 
 // Whether a deck has rows, columns and carriers as a floor of these sides.
 pub(super) fn is_sized<D: Deck>(deck: &D, sides: Sides) -> bool
-    ensures { MatchBool result (Sized sides.height sides.width (D.Deck.view deck.now)) (Sized sides.height sides.width (D.Deck.view deck.now) → ⊥) }
+    ensures { Tells result (Sized sides.height sides.width (D.Deck.view deck.now)) }
 {
     deck.rows() == sides.rows()
         && deck.columns() == sides.columns()
@@ -24,16 +25,16 @@ pub(super) fn is_sized<D: Deck>(deck: &D, sides: Sides) -> bool
 // Whether each carrier is where its route has it at a moment.
 fn are_at<D: Deck>(deck: &D, routes: &[Route], moment: Moment) -> bool
     requires { (D.Deck.view deck.now).carriers ≡ length routes.now }
-    ensures { (h w : ℕ) → MatchBool result (Placed (D.Deck.view deck.now) (length routes.now) ((motion_of moment.stage (plan_of h w routes.now)).place moment.progress)) (Placed (D.Deck.view deck.now) (length routes.now) ((motion_of moment.stage (plan_of h w routes.now)).place moment.progress) → ⊥) }
+    ensures { (h w : ℕ) → Tells result (Placed (D.Deck.view deck.now) (length routes.now) (place_when moment (plan_of h w routes.now))) }
 {
-    routes.iter().enumerate().all(|(carrier, route)| deck.place(carrier)
-        == Some(route.place(moment)))
+    let mut carriers = routes.iter().enumerate();
+    carriers.all(|(carrier, route)| deck.place(carrier) == Some(route.place(moment)))
 }
 
 impl Floor {
     // Whether the deck has the floor's sizes, with each carrier where the record puts it.
     pub(super) fn stands<D: Deck>(&self, deck: &D) -> bool
-        ensures { MatchBool result (Stands (shown self.now) (D.Deck.view deck.now)) (Stands (shown self.now) (D.Deck.view deck.now) → ⊥) }
+        ensures { Tells result (Stands (shown self.now) (D.Deck.view deck.now)) }
     {
         if !is_sized(deck, self.sides) {
             return false;

@@ -1,16 +1,32 @@
-use Rattle.std.proofs.Common.{sym, ap, arith}
+use Rattle.std.proofs.Common.{ℕ, length, sym, ap, arith}
 use Rattle.std.proofs.lemmas.Bool.{both_ways}
+use Rattle.std.proofs.lemmas.List.{length-take-le}
 use Rattle.matchings.specs.Matchings.{◌!◌}
 use Rattle.matchings.proofs.Choosing.{best_none, best_take, best_skip, best_all}
+use Rattle.matching.proofs.Rooms.{first_at}
 use Rattle.matching.proofs.placing.choose.Goals as goal
 use Rattle.matching.proofs.placing.choose.Goals.{then-right-least+then-may, else-right-least, else-right-least-via-then-right-least+else-may, else-right-least-via-else-right-least}
 
 pub loop-k-init : goal.loop-k-init
 loop-k-init g c = best_none _ _ _ _ 0
 
+pub offset_bounds-mate-entry : goal.offset_bounds-mate-entry
+offset_bounds-mate-entry g c =
+    let s = first_at c.args.work.now.entries.now c.first-entry-items.result.now c.args.count c.loop-k.k c.first-entry-items.ensures (omega arith) (omega arith) in
+    let b = c.requires.below c.loop-k.k s.0 in
+    omega arith
+
+pub bounds-mate-entry : goal.bounds-mate-entry
+bounds-mate-entry g c =
+    let s = first_at c.args.work.now.entries.now c.first-entry-items.result.now c.args.count c.loop-k.k c.first-entry-items.ensures (omega arith) (omega arith) in
+    let b = c.requires.below c.loop-k.k s.0 in
+    omega arith
+
 pub loop-k-preserved : goal.loop-k-preserved
 loop-k-preserved g c =
-    let e = ap (λ x. c.args.mate.now ! x) c.member.ensures in
+    let s = first_at c.args.work.now.entries.now c.first-entry-items.result.now c.args.count c.loop-k.k c.first-entry-items.ensures (omega arith) (omega arith) in
+    let e = ap (λ (x : ℕ). c.args.mate.now ! x) s.1 in
+    let b = c.requires.below c.loop-k.k s.0 in
     elim c.if-right-least.branch [
       | then-right-least+then-may w ↦ simp (w.best-is, w.least-is)
           (best_take _ _ _ _ _ _ _ _ e c.loop-k.invariant (sym w.if-may.ensures) w.if-right-least.true)
@@ -19,8 +35,9 @@ loop-k-preserved g c =
             | else-right-least-via-then-right-least+else-may x ↦ λ a. absurd (both_ways _ (sym x.if-may.ensures) a)
             | else-right-least-via-else-right-least x ↦ λ a. x.if-right-least.false
           ])
-          (c.requires.inj.below _ (omega (arith, c.member.ensures, c.requires.below c.loop-k.k (omega arith)))))
+          (c.requires.inj.below _ (omega arith)))
     ]
 
 pub returns : goal.returns
-returns g c = best_all _ _ _ _ _ _ _ _ c.loop-k.invariant (omega arith)
+returns g c = best_all _ _ _ _ _ _ _ _ c.loop-k.invariant
+    (omega (arith, ap length c.first-entry-items.ensures, length-take-le c.args.count c.args.work.now.entries.now (omega arith)))

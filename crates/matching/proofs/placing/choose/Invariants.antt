@@ -5,4 +5,4 @@ use Rattle.matching.specs.WorkLists.{members_of}
 use Rattle.matching.proofs.placing.choose.Given as goal
 
 abbrev pub invariant-loop-k : goal.invariant-loop-k
-invariant-loop-k g l = Best (loose (g.R.Relation.allowed l.rel) l.quest.wild l.quest.left) l.mate (members_of l.work) (length l.mate) l.k l.best l.least
+invariant-loop-k g l = Best (loose (g.R.Relation.allowed l.quest.rel.now) l.quest.wild l.quest.left) l.mate (members_of l.work) (length l.mate) l.k l.best l.least

@@ -1,54 +1,70 @@
-use Rattle.std.proofs.Common.{◌≡◌, ℕ, ◌<◌, length, refl, ap, ◌∙◌, subst, ⊎_elim, arith, get_or-set_same}
+use Rattle.std.proofs.Common.{◌≡◌, ℕ, ◌+◌, ◌<◌, ◌≤◌, ◌≢◌, List, length, refl, sym, ap, ◌∙◌, subst, add-zero, ⊎_elim, arith, get_or-set_same}
 use Rattle.std.proofs.lemmas.Bool.{cases_lt}
+use Rattle.std.proofs.lemmas.List.{length-drop, take_rest}
 use Rattle.matchings.specs.Matchings.{◌!◌}
 use Rattle.matchings.specs.Reaching.{Lined}
 use Rattle.matchings.proofs.Lines.{line_start, line_skip, line_more}
 use Rattle.matching.specs.WorkLists.{members_of}
-use Rattle.matching.proofs.Rooms.{room_two}
+use Rattle.matching.proofs.Rooms.{members_long, rest_at}
 use Rattle.matching.proofs.reaching.line_up.Goals as goal
-use Rattle.matching.proofs.reaching.line_up.Goals.{then-l-left+then-block-l, else-l-left, else-l-left-via-then-l-left+else-block-l, else-l-left-via-else-l-left}
+use Rattle.matching.proofs.reaching.line_up.Goals.{then-l-left+then-label-block, else-l-left, else-l-left-via-then-l-left+else-label-block, else-l-left-via-else-l-left}
 
-pub loop-l-init : goal.loop-l-init
-loop-l-init c = (
-  line_start _ _ _ _ _ (omega arith) (omega arith)
-      (ap (λ xs. xs ! 0) c.put.ensures.members ∙ get_or-set_same (members_of c.args.work.now) 0 c.args.quest.left 0 (omega arith)),
-  record { own = refl; theirs = refl },
-)
+pub loop-k-init : goal.loop-k-init
+loop-k-init g c =
+    let long = members_long c.args.work.now in (
+      rw add-zero (line_start _ _ _ _ _ (omega arith) c.args.quest.now.free
+          (ap (λ (xs : List ℕ). xs ! 0) c.put.ensures.members ∙ get_or-set_same (members_of c.args.work.now) 0 c.args.quest.now.left 0 (omega arith))),
+      refl,
+    )
 
-pub put-requires-then-block-l : goal.put-requires-then-block-l
-put-requires-then-block-l c =
-    let a = c.put.ensures.room.own in
-    let b = c.loop-l.invariant.1.own in
-    let lo = c.loop-l.invariant.0.low in
-    ⊎_elim (λ s. let f = c.loop-l.invariant.0.fits s in omega arith) (λ s. omega arith) (cases_lt c.args.quest.left c.loop-l.l)
+-- a line has a place for one more
+room_left : (n fixed : ℕ) (block : List ℕ) (left l m : ℕ) (members : List ℕ) → left < n → l < n → fixed ≤ l → l ≢ left → Lined n fixed block left l m members → m < n
+room_left n fixed block left l m members h k f d L =
+    let lo = L.low in
+    ⊎_elim (λ s. let q = L.fits s in omega arith) (λ s. omega arith) (cases_lt left l)
 
-pub loop-l-preserved : goal.loop-l-preserved
-loop-l-preserved c =
-    let a = c.put.ensures.room.own in
-    let b = c.loop-l.invariant.1.own in
-    let lo = c.loop-l.invariant.0.low in
+pub put-requires-then-label-block : goal.put-requires-then-label-block
+put-requires-then-label-block g c =
+    let at = rest_at c.args.block.now c.args.quest.now.fixed c.loop-k.k 0 (omega arith) in
+    let r = room_left _ _ _ _ _ _ _ c.requires.left at.0 (omega arith) c.if-l-left.true c.loop-k.invariant.0 in
+    let a = c.put.ensures.room in
+    let b = c.loop-k.invariant.1 in
+    omega arith
+
+pub loop-k-preserved : goal.loop-k-preserved
+loop-k-preserved g c =
+    let n = length c.args.block.now in
+    let fixed = c.args.quest.now.fixed in
+    let left = c.args.quest.now.left in
+    let l = c.args.quest.now.fixed + c.loop-k.k in
+    let at = rest_at c.args.block.now fixed c.loop-k.k 0 (omega arith) in
+    let long = members_long c.loop-k.work in
+    let a = c.put.ensures.room in
+    let b = c.loop-k.invariant.1 in
+    let e : l + 1 ≡ fixed + (c.loop-k.k + 1) = omega arith in
     elim c.if-l-left.branch [
-      | then-l-left+then-block-l w ↦
-          let room : c.loop-l.count < length (members_of c.loop-l.work) =
-          ⊎_elim (λ s. let f = c.loop-l.invariant.0.fits s in omega arith) (λ s. omega arith) (cases_lt c.args.quest.left c.loop-l.l) in
-          simp (w.work-is, w.count-is) (
-            line_more _ _ _ _ _ _ _ (omega arith) (omega arith) c.loop-l.invariant.0 _ w.put-then-block-l.ensures.members room w.if-l-left.true w.if-block-l.true,
-            room_two _ _ _ c.loop-l.invariant.1 w.put-then-block-l.ensures.room,
-          )
+      | then-l-left+then-label-block w ↦ let room = room_left _ _ _ _ _ _ _ c.requires.left at.0 (omega arith) w.if-l-left.true c.loop-k.invariant.0 in simp (w.work-is, w.count-is) (
+        subst (λ (x : ℕ). Lined n fixed c.args.block.now left x (c.loop-k.count + 1) (members_of w.put-then-label-block.new.self)) e
+            (line_more _ _ _ _ _ _ _ at.0 (omega arith) c.loop-k.invariant.0 _ w.put-then-label-block.ensures.members (omega arith) w.if-l-left.true (sym at.1 ∙ w.if-label-block.true)),
+        w.put-then-label-block.ensures.room ∙ c.loop-k.invariant.1,
+      )
       | else-l-left w ↦ simp (w.work-is, w.count-is) (
-        line_skip _ _ _ _ _ _ _ (omega arith) (omega arith) c.loop-l.invariant.0
+        subst (λ (x : ℕ). Lined n fixed c.args.block.now left x c.loop-k.count (members_of c.loop-k.work)) e
+            (line_skip _ _ _ _ _ _ _ at.0 (omega arith) c.loop-k.invariant.0
             (elim w.else-l-left.branch [
-              | else-l-left-via-then-l-left+else-block-l x ↦ λ e. absurd (x.if-block-l.false e)
-              | else-l-left-via-else-l-left x ↦ λ e. x.if-l-left.false
-            ]),
-        c.loop-l.invariant.1,
+              | else-l-left-via-then-l-left+else-label-block x ↦ λ q. absurd (x.if-label-block.false (at.1 ∙ q))
+              | else-l-left-via-else-l-left x ↦ λ q. x.if-l-left.false
+            ])),
+        c.loop-k.invariant.1,
       )
     ]
 
 pub returns : goal.returns
-returns c =
-    let e : c.loop-l.l ≡ length c.args.block.now = omega arith in
+returns g c =
+    let n = length c.args.block.now in
+    let long = ap length (take_rest c.args.block.now c.args.quest.now.fixed) ∙ length-drop c.args.quest.now.fixed c.args.block.now in
+    let e : c.args.quest.now.fixed + c.loop-k.k ≡ n = omega arith in
     record {
-      lined = subst (λ (x : ℕ). Lined (length c.args.block.now) c.args.quest.fixed c.args.block.now c.args.quest.left x c.loop-l.count (members_of c.loop-l.work)) e c.loop-l.invariant.0;
-      room = room_two _ _ _ c.put.ensures.room c.loop-l.invariant.1;
+      lined = subst (λ (x : ℕ). Lined n c.args.quest.now.fixed c.args.block.now c.args.quest.now.left x c.loop-k.count (members_of c.loop-k.work)) e c.loop-k.invariant.0;
+      room = c.loop-k.invariant.1 ∙ c.put.ensures.room;
     }

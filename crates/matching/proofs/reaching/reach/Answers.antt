@@ -2,47 +2,47 @@ use Rattle.std.proofs.Common.{ℕ, Bool, true, false, ◌<◌, length, sym, refl
 use Rattle.matchings.specs.Matchings.{◌!◌}
 use Rattle.matchings.proofs.Lines.{same_as, same_two}
 use Rattle.matchings.specs.Reaching.{loose, IsClass, Added}
-use Rattle.matchings.proofs.Reaching.{started, goal_fits, joined, loose_class, closed_skip, noted_more, none_noted}
+use Rattle.matchings.proofs.Reaching.{started, goal_fits, joined, loose_class, closed_skip, noted_more}
 use Rattle.matching.specs.WorkLists.{members_of}
-use Rattle.matching.proofs.Rooms.{room_two, room_after}
+use Rattle.matching.proofs.Rooms.{members_long, parents_long}
 use Rattle.matching.proofs.reaching.reach.Goals as goal
 use Rattle.matching.proofs.reaching.reach.Goals.{then-is_new, else-is_new}
 
 pub loop-head-init : goal.loop-head-init
 loop-head-init g c = (
-  started _ _ _ _ _ _ _ _ (omega arith) (omega arith) (omega arith) (omega (arith, c.requires.inj.below c.args.quest.left (omega arith))) c.requires.clear,
+  started _ _ _ _ _ _ _ _ (omega arith) (omega arith) (omega arith) (omega (arith, c.requires.inj.below c.args.quest.now.left (omega arith))) c.requires.clear,
   λ k l h. absurd (omega arith),
   omega arith,
   λ k h. refl,
   c.requires.movable,
   same_as _ _,
   omega arith,
-  record { own = refl; theirs = refl },
-  λ k h. absurd (none_noted c.clear.new.marks (λ j l. c.clear.ensures.zero j (omega (arith, c.clear.auto.marks))) k h),
+  refl,
+  λ k h. absurd (let z = c.none-notes.ensures k in omega arith),
+  omega arith,
 )
 
 pub join-requires : goal.join-requires
 join-requires g c =
     let h = goal_fits _ _ _ _ _ _ _ _ _ _ c.args.goal c.loop-head.invariant.0 c.in-Some.ensures.0 (omega arith) (omega arith) (omega arith) in
-    let a = c.loop-head.invariant.7.own in
-    let b = c.loop-head.invariant.7.theirs in
-    (omega arith, omega arith)
+    omega arith
 
 pub returns-in-Some : goal.returns-in-Some
 returns-in-Some g c =
     let m = c.requires.inj.below c.args.goal (omega arith) in
-    let b = c.requires.inj.below c.args.quest.left (omega arith) in
+    let b = c.requires.inj.below c.args.quest.now.left (omega arith) in
     let e = c.loop-head.auto.marks in
-    let z = length-set c.args.marks.now (c.args.mate.now ! c.args.quest.left) 1 in
-    let r = room_after _ _ _ c.requires.room c.loop-head.invariant.7 in
+    let z = length-set c.args.marks.now (c.args.mate.now ! c.args.quest.now.left) 1 in
+    let own = members_long c.loop-head.work in
+    let theirs = parents_long c.loop-head.work in
     let h : c.args.mate.now ! c.args.goal < length c.loop-head.marks = omega arith in
     record {
       reached = joined _ _ _ _ _ _ _ _ _ _ c.args.goal c.loop-head.invariant.0 c.in-Some.ensures.0 (omega arith) (omega arith) (omega arith)
-          _ _ c.join.ensures.members c.join.ensures.parents r.own r.theirs h c.in-Some.ensures.1;
+          _ _ c.join.ensures.members c.join.ensures.parents (omega arith) (omega arith) h c.in-Some.ensures.1;
       ended = inr (omega (arith, get_or-set_same c.loop-head.marks (c.args.mate.now ! c.args.goal) 1 0 h));
       rest = λ k h. get_or-set_other c.loop-head.marks (c.args.mate.now ! c.args.goal) k 1 0 (omega arith) ∙ c.loop-head.invariant.3 k h
-          ∙ get_or-set_other c.args.marks.now (c.args.mate.now ! c.args.quest.left) k 1 0 (omega arith);
-      room = room_two _ _ _ c.loop-head.invariant.7 c.join.ensures.room;
+          ∙ get_or-set_other c.args.marks.now (c.args.mate.now ! c.args.quest.now.left) k 1 0 (omega arith);
+      room = c.join.ensures.room ∙ c.loop-head.invariant.7;
     }
 
 pub overflow_add-head : goal.overflow_add-head
@@ -50,16 +50,16 @@ overflow_add-head g c = let h = c.loop-head.invariant.0.fits in omega arith
 
 pub loop-head-preserved : goal.loop-head-preserved
 loop-head-preserved g c =
-    let A = loose (g.R.Relation.allowed c.args.rel.now) c.args.quest.wild in
-    let R = g.R.Relation.allowed c.args.rel.now in
-    let n = g.R.Relation.size c.args.rel.now in
-    let class = g.R.Relation.classes c.args.rel.now in
+    let A = loose (g.R.Relation.allowed c.args.quest.now.rel.now) c.args.quest.now.wild in
+    let R = g.R.Relation.allowed c.args.quest.now.rel.now in
+    let n = g.R.Relation.size c.args.quest.now.rel.now in
+    let class = g.R.Relation.classes c.args.quest.now.rel.now in
     let mate = c.args.mate.now in
     let members = members_of c.loop-head.work in
     let head = c.loop-head.head in
     let e = c.member.ensures in
-    let added : (fresh : Bool) → Added R n class (mate ! c.member.result) c.loop-head.seen c.is_new.new.seen fresh → Added R n class (mate ! (members ! head)) c.loop-head.seen c.is_new.new.seen fresh =
-    λ fresh h. subst (λ (x : ℕ). Added R n class (mate ! x) c.loop-head.seen c.is_new.new.seen fresh) e h in
+    let added : (fresh : Bool) → Added R n class (mate ! c.member.result) c.loop-head.notes.seen c.is_new.new.self.seen fresh → Added R n class (mate ! (members ! head)) c.loop-head.notes.seen c.is_new.new.self.seen fresh =
+    λ fresh h. subst (λ (x : ℕ). Added R n class (mate ! x) c.loop-head.notes.seen c.is_new.new.self.seen fresh) e h in
     elim c.if-is_new.branch [
       | then-is_new w ↦ simp (w.work-is, w.marks-is, w.tail-is) (
         w.visit-tail.ensures.reached,
@@ -69,8 +69,9 @@ loop-head-preserved g c =
         w.visit-tail.ensures.movable,
         same_two _ _ _ _ c.loop-head.invariant.5 w.visit-tail.ensures.same,
         w.visit-tail.ensures.ahead.1,
-        room_two _ _ _ c.loop-head.invariant.7 w.visit-tail.ensures.room,
+        w.visit-tail.ensures.room ∙ c.loop-head.invariant.7,
         noted_more _ _ class mate members _ head c.loop-head.tail _ _ _ c.loop-head.invariant.8 (added true w.if-is_new.ensures) (omega arith) w.visit-tail.ensures.front,
+        w.visit-tail.ensures.ahead.0,
       )
       | else-is_new w ↦ simp (w.work-is, w.marks-is, w.tail-is) (
         c.loop-head.invariant.0,
@@ -86,5 +87,6 @@ loop-head-preserved g c =
         c.loop-head.invariant.6,
         c.loop-head.invariant.7,
         noted_more _ _ class mate members _ head c.loop-head.tail _ _ _ c.loop-head.invariant.8 (added false w.if-is_new.ensures) (omega arith) (λ k h. refl),
+        omega arith,
       )
     ]

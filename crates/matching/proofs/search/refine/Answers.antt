@@ -1,46 +1,32 @@
-use Rattle.std.proofs.Common.{◌≡◌, ℕ, ◌+◌, [], length, get_or, refl, ap, ◌∙◌, subst, arith}
+use Rattle.std.proofs.Common.{◌≡◌, ℕ, ◌+◌, Bool, [], List, Option, Some, Ok, Err, Result, length, sym, refl, ◌∙◌, subst, arith}
 use Rattle.matchings.specs.Matchings.{First}
 use Rattle.matchings.specs.Reaching.{loose}
-use Rattle.matchings.specs.Placing.{Confined}
-use Rattle.matchings.proofs.Phases.{Sorted, held_loose, sorted_none, sorted_others, sorted_placed, confined_zero, confined_more, never_refused, first_of}
+use Rattle.matchings.specs.Placing.{Confined, Placed, Sealed}
+use Rattle.matchings.proofs.Phases.{Sorted, sorted_placed, confined_more, never_refused, first_of}
 use Rattle.matchings.proofs.Places.{sealed_none}
 use Rattle.matchings.proofs.Shortcuts.{stays_least, has_least_loose, split_nothing}
-use Rattle.matching.specs.WorkLists.{Room}
-use Rattle.matching.proofs.Rooms.{room_two, room_after}
+use Rattle.matching.specs.declared.placing.Stuck.{Stuck}
+use Rattle.matching.specs.Answers.{Outcome, SealedSome}
+use Rattle.matching.specs.WorkLists.{members_of}
+use Rattle.matching.proofs.Keeping.{kept_same, kept_two}
+use Rattle.matching.proofs.Rooms.{member_at, first_at, split_first}
 use Rattle.matching.proofs.search.refine.Goals as goal
-use Rattle.matching.proofs.search.refine.Goals.{in-Given, in_default}
 
-pub loop-left-init : goal.loop-left-init
-loop-left-init g c = (sorted_none _ _ _ (held_loose _ _ _ _ c.requires.held), refl, confined_zero _ _ _ _ _ c.requires.clear.1, record { own = refl; theirs = refl })
+-- in the second pass each left member gets one
+placed_all : (A : ℕ → ℕ → Bool) (n left : ℕ) (block old new members : List ℕ) (r : Result (Option ℕ) Stuck) → Sorted A n left old
+    → Outcome A n left left block old new members r → Placed A n left left old new
+placed_all A n left block old new members (Ok sealed) S o = o.0
+placed_all A n left block old new members (Err s) S o = absurd (never_refused A n left block old members s.reached S o.0)
 
-pub place-requires : goal.place-requires
-place-requires g c =
-    let e : length c.args.mate.now ≡ length c.loop-left.mate = omega arith in
-    record {
-      size = (omega arith, (omega arith, omega arith));
-      room = room_after _ _ _ (subst (λ (x : ℕ). Room x c.args.work.now) e c.requires.room) c.loop-left.invariant.3;
-      inj = c.loop-left.invariant.0.held.inj;
-      left = (omega arith, omega arith);
-      clear = λ k h. ap (λ xs. get_or xs k 0) c.loop-left.invariant.1 ∙ c.requires.clear.0 k (omega arith);
-      others = sorted_others _ _ _ _ c.loop-left.invariant.0;
-      confined = c.loop-left.invariant.2;
-    }
+-- and the blocks that stay confine the next one
+confined_still : (A : ℕ → ℕ → Bool) (n left : ℕ) (old new block : List ℕ) → Sorted A n left old → Confined A n left block old → Placed A n left left old new
+    → Confined A n (left + 1) block new
+confined_still A n left old new block S con P =
+    confined_more A n left old new block block [] 0 0 S.held.inj con P (sealed_none A n left old []) (split_nothing [] 0 block)
 
-pub loop-left-preserved : goal.loop-left-preserved
-loop-left-preserved g c =
-    let e : length c.loop-left.mate ≡ length c.place.new.mate = omega (arith, c.place.auto.mate) in
-    let room = room_two _ _ _ c.loop-left.invariant.3 c.place.ensures.room in
-    elim c.match-place.branch [
-      | in-Given w ↦ simp w.block-is (
-        subst (λ (x : ℕ). Sorted (loose (g.R.Relation.allowed c.args.rel.now) (length c.args.mate.now)) x (c.loop-left.left + 1) c.place.new.mate) e
-            (sorted_placed _ _ _ _ _ c.loop-left.invariant.0 w.in-Given.ensures.placed.0),
-        c.place.ensures.marks ∙ c.loop-left.invariant.1,
-        subst (λ (x : ℕ). Confined (loose (g.R.Relation.allowed c.args.rel.now) (length c.args.mate.now)) x (c.loop-left.left + 1) w.split.new.block c.place.new.mate) e
-            (confined_more _ _ _ _ _ _ _ _ _ _ c.loop-left.invariant.0.held.inj c.loop-left.invariant.2 w.in-Given.ensures.placed.0 w.in-Given.ensures.placed.1 w.split.ensures),
-        room,
-      )
-      | in_default w ↦ absurd (never_refused _ _ _ _ _ _ _ c.loop-left.invariant.0 w.in_default.ensures.placed.0)
-    ]
+sealed_there : (A : ℕ → ℕ → Bool) (n left : ℕ) (mate members : List ℕ) (o : Option ℕ) (sealed : ℕ) → o ≡ Some sealed → SealedSome A n left mate members o
+    → Sealed A n left mate members sealed
+sealed_there A n left mate members o sealed e s = subst (λ (p : Option ℕ). SealedSome A n left mate members p) e s
 
 pub loop-left-preserved-then-has_least : goal.loop-left-preserved-then-has_least
 loop-left-preserved-then-has_least g c =
@@ -48,22 +34,71 @@ loop-left-preserved-then-has_least g c =
     let n = length c.loop-left.mate in
     let left = c.loop-left.left in
     let mate = c.loop-left.mate in
-    let block = c.loop-left.block in
+    let block = c.loop-left.tables.block.now in
     let least =
-    stays_least A n left block mate (omega arith) c.loop-left.invariant.0 c.loop-left.invariant.2
+    stays_least A n left block mate (omega arith) c.loop-left.invariant.0 c.loop-left.invariant.1
     (has_least_loose (g.R.Relation.allowed c.args.rel.now) n (length c.args.mate.now) left block mate (omega arith) c.if-has_least.ensures) in (
       sorted_placed A n left mate mate c.loop-left.invariant.0 least,
-      c.loop-left.invariant.1,
-      confined_more A n left mate mate block block [] 0 0 c.loop-left.invariant.0.held.inj c.loop-left.invariant.2 least (sealed_none A n left mate []) (split_nothing [] 0 block),
-      c.loop-left.invariant.3,
+      confined_still A n left mate mate block c.loop-left.invariant.0 c.loop-left.invariant.1 least,
+      kept_two _ _ _ c.loop-left.invariant.2 (kept_same c.loop-left.tables),
     )
 
-pub returns : goal.returns
-returns g c = record {
-  marks = c.loop-left.invariant.1;
-  room = c.loop-left.invariant.3;
-  first =
-      let e : length c.loop-left.mate ≡ length c.args.mate.now = omega (arith, c.loop-left.auto.mate) in
-      subst (λ (x : ℕ). First (g.R.Relation.allowed c.args.rel.now) x c.loop-left.mate) e
-      (first_of _ (length c.loop-left.mate) (length c.args.mate.now) c.loop-left.left _ refl (omega arith) (omega arith) c.loop-left.invariant.0);
-}
+pub split-requires : goal.split-requires
+split-requires g c k h =
+    let A = loose (g.R.Relation.allowed c.args.rel.now) (length c.args.mate.now) in
+    let es = c.place.new.tables.work.now.entries.now in
+    let S = sealed_there A _ c.loop-left.left _ (members_of c.place.new.tables.work.now) _ _ c.in-Ok-Some.field-0-is c.in-Ok-Some.ensures.placed.1 in
+    let at = first_at es c.first.result.now c.in-Ok-Some.sealed k c.first.ensures (omega arith) h in
+    let e = member_at c.first.result.now k h in
+    let b = S.below k at.0 in
+    let l = c.in-Ok-Some.ensures.kept.block in
+    let m = c.loop-left.invariant.2.block in
+    omega arith
+
+pub loop-left-preserved : goal.loop-left-preserved
+loop-left-preserved g c =
+    let A = loose (g.R.Relation.allowed c.args.rel.now) (length c.args.mate.now) in
+    let left = c.loop-left.left in
+    let new = c.place.new.mate in
+    let line = members_of c.place.new.tables.work.now in
+    let es = c.place.new.tables.work.now.entries.now in
+    let e : length c.loop-left.mate ≡ length new = omega (arith, c.place.auto.mate) in
+    let P = c.in-Ok-Some.ensures.placed.0 in
+    let S = sealed_there A _ left _ line _ _ c.in-Ok-Some.field-0-is c.in-Ok-Some.ensures.placed.1 in
+    let T = split_first es c.first.result.now c.in-Ok-Some.sealed (left + 1) _ c.split.new.block c.first.ensures (omega arith) c.split.ensures in
+    let k = kept_two _ _ _ c.loop-left.invariant.2 c.in-Ok-Some.ensures.kept in (
+      subst (λ (x : ℕ). Sorted A x (left + 1) new) e (sorted_placed A _ left _ new c.loop-left.invariant.0 P),
+      subst (λ (x : ℕ). Confined A x (left + 1) c.split.new.block new) e
+          (confined_more A _ left _ new _ c.split.new.block line c.in-Ok-Some.sealed (left + 1) c.loop-left.invariant.0.held.inj
+          (subst (λ (xs : List ℕ). Confined A (length c.loop-left.mate) left xs c.loop-left.mate) (sym c.in-Ok-Some.ensures.block) c.loop-left.invariant.1) P S T),
+      record {
+        same_block = k.same_block;
+        block = c.split.auto.block ∙ k.block;
+        same_marks = k.same_marks;
+        marks = k.marks;
+        same_work = k.same_work;
+        room = k.room;
+      },
+    )
+
+pub loop-left-preserved-in_default : goal.loop-left-preserved-in_default
+loop-left-preserved-in_default g c =
+    let A = loose (g.R.Relation.allowed c.args.rel.now) (length c.args.mate.now) in
+    let n = length c.loop-left.mate in
+    let left = c.loop-left.left in
+    let old = c.loop-left.mate in
+    let new = c.place.new.mate in
+    let block = c.loop-left.tables.block.now in
+    let e : n ≡ length new = omega (arith, c.place.auto.mate) in
+    let P = placed_all A n left block old new (members_of c.place.new.tables.work.now) _ c.loop-left.invariant.0 c.place.ensures.placed in (
+      subst (λ (x : ℕ). Sorted A x (left + 1) new) e (sorted_placed A n left old new c.loop-left.invariant.0 P),
+      subst (λ (xs : List ℕ). Confined A (length new) (left + 1) xs new) (sym c.place.ensures.block)
+          (subst (λ (x : ℕ). Confined A x (left + 1) block new) e (confined_still A n left old new block c.loop-left.invariant.0 c.loop-left.invariant.1 P)),
+      kept_two _ _ _ c.loop-left.invariant.2 c.place.ensures.kept,
+    )
+
+pub returns-clause-first : goal.returns-clause-first
+returns-clause-first g c =
+    let e : length c.loop-left.mate ≡ length c.args.mate.now = omega (arith, c.loop-left.auto.mate) in
+    subst (λ (x : ℕ). First (g.R.Relation.allowed c.args.rel.now) x c.loop-left.mate) e
+    (first_of _ (length c.loop-left.mate) (length c.args.mate.now) c.loop-left.left _ refl (omega arith) (omega arith) c.loop-left.invariant.0)

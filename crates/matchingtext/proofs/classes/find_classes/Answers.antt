@@ -1,4 +1,4 @@
-use Rattle.std.proofs.Common.{◌≡◌, ℕ, ◌+◌, ◌-◌, ◌*◌, ◌<◌, ◌≤◌, eqb, List, length, take, drop, ap, ◌∙◌, subst, mul-le-mul_right, add-mul, one-mul, arith, length-drop, length-take}
+use Rattle.std.proofs.Common.{◌≡◌, ℕ, ◌+◌, ◌-◌, ◌*◌, ◌<◌, ◌≤◌, eqb, List, length, take, drop, ap, ◌∙◌, refl, subst, mul-le-mul_right, add-mul, one-mul, arith, length-drop, length-take}
 use Rattle.std.proofs.lemmas.List.{get_or-take, get_or-drop}
 use Rattle.matchingtext.specs.Sheets.{allowed_by}
 use Rattle.matchingtext.specs.Classes.{one, SplitBy}
@@ -20,7 +20,7 @@ row_part rows n row k e c l =
     ap (λ (x : ℕ). eqb x 49) (get_or-take k (drop (row * (n + 1)) rows) c 0 (omega arith) ∙ get_or-drop (row * (n + 1)) rows c 0)
 
 pub loop-row-init : goal.loop-row-init
-loop-row-init c = alike_none _ _ _ (λ k h. c.fill.ensures k (omega arith))
+loop-row-init c = alike_none _ _ _ (λ k h. c.fill.ensures.clones k 0 (omega arith) refl)
 
 pub slice_bounds-split_by-end : goal.slice_bounds-split_by-end
 slice_bounds-split_by-end c = within c.args.count c.loop-row.row (length c.args.rows.now) (omega arith) (omega (arith, c.requires.rows))

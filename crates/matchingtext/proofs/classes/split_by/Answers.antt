@@ -1,9 +1,10 @@
 use Rattle.std.proofs.Common.{length, sym, refl, ◌∙◌, arith}
+use Rattle.std.proofs.lemmas.List.{set-get_or}
 use Rattle.matchings.specs.Matchings.{◌!◌}
 use Rattle.matchingtext.specs.Classes.{one}
-use Rattle.matchingtext.proofs.Splitting.{splitting_none, split_keeps, split_first, split_next, split_all, differ, agree}
+use Rattle.matchingtext.proofs.Splitting.{splitting_none, split_keeps, split_moves, split_all, differ, agree}
 use Rattle.matchingtext.proofs.classes.split_by.Goals as goal
-use Rattle.matchingtext.proofs.classes.split_by.Goals.{then-is_one, then-twins-class, else-twins-class, else-is_one}
+use Rattle.matchingtext.proofs.classes.split_by.Goals.{then-is_one, else-is_one}
 
 pub loop-c-init : goal.loop-c-init
 loop-c-init c = splitting_none _ _ _ _ c.requires.fresh
@@ -17,17 +18,10 @@ loop-c-preserved c =
     let here = c.is_one.ensures in
     let there = c.is_one-in-loop-c.ensures in
     elim c.if-is_one.branch [
-      | then-is_one w ↦ simp (w.classes-is, w.twins-is) (
-          elim w.if-twins-class.branch [
-            | then-twins-class v ↦ simp v.twins-is
-                (split_first (one row) (length row) c.args.classes.now c.loop-c.classes c.loop-c.twins i class c.loop-c.invariant (omega arith) (omega arith) refl below
-                (omega arith) (λ e. differ _ _ w.if-is_one.true (here ∙ e ∙ sym there)) v.if-twins-class.true)
-            | else-twins-class v ↦ simp v.twins-is
-                (split_next (one row) (length row) c.args.classes.now c.loop-c.classes c.loop-c.twins i class c.loop-c.invariant (omega arith) (omega arith) refl below
-                (λ e. differ _ _ w.if-is_one.true (here ∙ e ∙ sym there)) v.if-twins-class.false)
-          ]
-          )
-      | else-is_one w ↦ simp (w.classes-is, w.twins-is)
+      | then-is_one w ↦ simp (w.classes-is, w.twins-is)
+          (split_moves (one row) (length row) c.args.classes.now c.loop-c.classes c.loop-c.twins i class c.loop-c.invariant (omega arith) (omega arith) refl below
+          (omega arith) (λ e. differ _ _ w.if-is_one.true (here ∙ e ∙ sym there)) _ w.unwrap_or-twin.ensures)
+      | else-is_one w ↦ simp (w.classes-is, w.twins-is, set-get_or)
           (split_keeps (one row) (length row) c.args.classes.now c.loop-c.classes c.loop-c.twins i class c.loop-c.invariant (omega arith) (omega arith) refl below
           (sym here ∙ agree _ _ w.if-is_one.false ∙ there))
     ]

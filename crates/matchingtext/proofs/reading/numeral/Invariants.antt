@@ -3,5 +3,5 @@ use Rattle.matchings.specs.Matchings.{◌!◌}
 use Rattle.matchingtext.specs.Sheets.{written}
 use Rattle.matchingtext.proofs.reading.numeral.Given as goal
 
-abbrev pub invariant-loop-k : goal.invariant-loop-k
-invariant-loop-k l = ((k : ℕ) → k < l.k → (48 ≤ l.digits ! k) × (l.digits ! k ≤ 57)) × (l.n ≡ written (take l.k l.digits)) × (l.n < 10 ^ l.k)
+abbrev pub invariant-loop-digit : goal.invariant-loop-digit
+invariant-loop-digit l = ((k : ℕ) → k < l.digit-index → (48 ≤ l.digits ! k) × (l.digits ! k ≤ 57)) × (l.n ≡ written (take l.digit-index l.digits)) × (l.n < 10 ^ l.digit-index)

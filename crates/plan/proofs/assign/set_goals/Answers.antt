@@ -8,7 +8,7 @@ loop-number-init c = setting_none _ _ _
 pub loop-number-preserved : goal.loop-number-preserved
 loop-number-preserved c =
     setting_more _ _ _ _ _ _ c.loop-number.invariant c.requires.inj (omega arith) (let z = c.loop-number.invariant.starts.long in omega arith) _
-    c.numbered_slot.ensures
+    (let z = rw c.unwrap.ensures at c.slot.ensures in z.1)
 
 pub returns : goal.returns
 returns c =

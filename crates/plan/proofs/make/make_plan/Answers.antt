@@ -1,4 +1,4 @@
-use Rattle.std.proofs.Common.{ℕ, List, refl, ap, ◌∙◌, arith}
+use Rattle.std.proofs.Common.{ℕ, List, ap, ◌∙◌, arith}
 use Rattle.matchings.specs.Matchings.{◌!◌}
 use Rattle.planning.proofs.Plans.{plan_is_unique}
 use Rattle.plan.proofs.Sizes.{bays_fit}
@@ -8,7 +8,7 @@ use Rattle.plan.proofs.make.make_plan.Goals as goal
 pub give_middle_rows-requires : goal.give_middle_rows-requires
 give_middle_rows-requires g c =
     let s = c.args.sides in
-    let A = c.if-not-assign.ensures in
+    let A = c.in_ok-assign.ensures in
     let few = bays_fit s.height s.width s.tall in
     record {
       marks = (
@@ -18,15 +18,13 @@ give_middle_rows-requires g c =
       whole = whole_of s _ _ _ A.starts c.requires.size.0 c.requires.starts A.assigned;
     }
 
-pub returns-then-not-assign : goal.returns-then-not-assign
-returns-then-not-assign g c =
-    let A = c.if-not-assign.ensures in
-    record { answer = (A.refused refl, A.assigned); unique = plan_is_unique; marks = A.marks }
+pub returns-in_err-assign-clause-unique : goal.returns-in_err-assign-clause-unique
+returns-in_err-assign-clause-unique g c = plan_is_unique
 
 pub returns : goal.returns
 returns g c =
     let s = c.args.sides in
-    let A = c.if-not-assign.ensures in
+    let A = c.in_ok-assign.ensures in
     let M = c.give_middle_rows.ensures in
     record {
       answer = (

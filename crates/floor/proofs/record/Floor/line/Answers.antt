@@ -18,7 +18,7 @@ returns c =
     let at = c.at-moment.result in
     let n : ℕ = c.slots-count.result + 1 in
     let bytes =
-    letters_whole f c.write_letters.new.out c.deref.result.now at.stage at.progress c.deref.ensures.value
+    letters_whole f c.write_letters.new.out c.deref.result.now at c.deref.ensures.value
     (c.at-moment.ensures.alike (plan_in f) f.staged)
     c.write_letters.ensures in
     let long : n ≡ length (line_bytes (shown f)) = simp (length-append, length-map-range_with_len) (omega arith) in (

@@ -21,6 +21,6 @@ returns g c =
     moved_gone p v w hs c.drive.result c.args.step k.good many c.requires.sized next long c.drive.ensures
     c.args.way
     (λ n l. c.requires.placed n (omega arith))
-    (headings_whole f c.args.way hs c.deref.result.now at.stage c.args.step at.progress c.deref.ensures.value
+    (headings_whole f c.args.way hs c.deref.result.now at c.args.step c.deref.ensures.value
     (c.at.ensures.alike p f.staged)
     c.write_headings.ensures)

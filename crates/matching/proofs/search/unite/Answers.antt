@@ -1,7 +1,0 @@
-use Rattle.std.proofs.Common.{◌∙◌, arith, get_or-set_other, get_or-set_same, below_more}
-use Rattle.matching.proofs.search.unite.Goals as goal
-
-pub loop-k-preserved : goal.loop-k-preserved
-loop-k-preserved c = below_more _ _
-    (λ k h. get_or-set_other c.loop-k.block c.loop-k.k k 0 0 (omega arith) ∙ c.loop-k.invariant k h)
-    (get_or-set_same c.loop-k.block c.loop-k.k 0 0 (omega arith))
