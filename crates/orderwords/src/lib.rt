@@ -26,7 +26,8 @@ impl fmt::Display for Carriers<'_> {
 
     fn fmt<W: fmt::Write>(&self, f: &mut fmt::Formatter<W>) -> fmt::Result {
         for carrier in 0..self.rule.carriers() {
-            if self.rule.admits(self.slot, carrier) {
+            let will_do = self.rule.admits(self.slot, carrier);
+            if will_do {
                 write!(f, " {carrier}")?;
             }
         }

@@ -19,7 +19,7 @@ use Rattle.serve.specs.Choices.{Choice}
 use Rattle.scripting.specs.Writing.{written, Holds, AtHome, Underway, InPhase, page_chosen}
 use Rattle.scripting.specs.declared.page.Page.{Page}
 use Rattle.scripting.specs.declared.page.Phase.{Phase}
-use Rattle.scripting.specs.declared.page.Phase.TheVariants.{Asked, Writing, Stepping, Over, Refused}
+use Rattle.scripting.specs.declared.page.Phase.TheVariants.{Ordering, Writing, Stepping, Over, Refused}
 use Rattle.scripting.proofs.Texts.{pasted_take, pasted_long, step_lines_long, first_line_short}
 use Rattle.scripting.proofs.Plans.{only_unfillable, plan_of, short, stands}
 
@@ -183,7 +183,7 @@ all_written s s' o f v n fault e e' tall wide used (LineRefused.no_room left few
 module _ (s : Page) (o : OrderView) (f g : FloorView) (v : DeckView) (k : ℕ) (r : RuleView) (marks : List ℕ)
     (a : AccountOf s o f v k) (chosen : page_chosen o s (Choice.order r marks)) where
   asked : AtHome o f v × (k ≡ 0)
-  asked = in_phase s o f v k Asked chosen.0 a
+  asked = in_phase s o f v k Ordering chosen.0 a
 
   same_line : (n : ℕ) → first_line_bytes s.sides.height s.sides.width n ≡ first_line_bytes o.height o.width n
   same_line n =

@@ -81,14 +81,11 @@ impl<K: Task> Source<Roster> for ScriptWriter<K> {
 
     fn next(&mut self, floor: &Floor, _deck: &mut Roster) -> Call {
         match self.page.phase {
-            Phase::Ordering => {
-                let pending = self.pending.take();
-                self.page.phase = Phase::Asked;
-                match pending {
-                    Some(Pending { rule, marks }) => Call::Order(rule, marks),
-                    None => Call::Stop,
-                }
-            }
+            Phase::Ordering => match self.pending.take() {
+                Some(Pending { rule, marks }) => Call::Order(rule, marks),
+                // its answer was not told
+                None => Call::Stop,
+            },
             Phase::Writing => match write_step(floor, &mut self.page.text, self.page.used) {
                 Ok(count) => {
                     self.page.used += count;
@@ -102,7 +99,7 @@ impl<K: Task> Source<Roster> for ScriptWriter<K> {
             },
             // its line is written
             Phase::Stepping => Call::Step,
-            Phase::Asked | Phase::Over | Phase::Refused(_) => Call::Stop,
+            Phase::Over | Phase::Refused(_) => Call::Stop,
         }
     }
 

@@ -1,9 +1,8 @@
-use Rattle.std.proofs.Common.{ap, ◌∙◌, arith}
+use Rattle.std.proofs.Common.{refl, arith}
 use Rattle.roster.specs.Rosters.{roster_view}
 use Rattle.floor.specs.Shown.{shown}
-use Rattle.script.specs.Lines.{refused_line_bytes}
 use Rattle.scripting.proofs.Ending.{ended, script_refused, script_written}
-use Rattle.scripting.proofs.scripts.Script.played.Goals as goal
+use Rattle.scripting.proofs.scripts.played.Goals as goal
 
 pub returns-in-Over : goal.returns-in-Over
 returns-in-Over g c =
@@ -25,4 +24,4 @@ returns-in-Refused g c =
     let end =
     ended c.args.writer.page s g.K.Task.order (shown c.args.floor) (shown c.serve.new.floor) (roster_view c.args.deck)
     (roster_view c.serve.new.deck) _ _ (rw (← h, ← w, b) (omega arith)) c.requires c.serve.ensures in
-    script_refused s g.K.Task.order c.in-Refused.fault _ end c.in-Refused.is (c.new.ensures ∙ ap refused_line_bytes c.number.ensures)
+    script_refused s g.K.Task.order c.in-Refused.fault _ end c.in-Refused.is refl
