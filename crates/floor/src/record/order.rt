@@ -16,7 +16,7 @@ use course::stage::Stages;
 use deck::Deck;
 use grid::sides::GREATEST_SLOTS;
 use grid::slot::Slot;
-use plan::make::{Planning, make_plan};
+use plan::make::make_plan;
 use rules::Rule;
 
 // Whether all marks are zero.
@@ -106,12 +106,10 @@ impl Floor {
         let mut all = [NOWHERE; GREATEST_SLOTS];
         let routes = &mut all[..slots];
         write_starts(&self.routes, self.steps_done, routes);
-        match make_plan(rule, self.sides, routes, marks) {
-            Planning::Made => {
-                self.take_on(routes);
-                Ok(self.stages.total())
-            }
-            Planning::Unfillable => Err(FloorFault::Unfillable),
-        }
+        let Ok(()) = make_plan(rule, self.sides, routes, marks) else {
+            return Err(FloorFault::Unfillable);
+        };
+        self.take_on(routes);
+        Ok(self.stages.total())
     }
 }

@@ -63,8 +63,8 @@ make_plan-requires g c =
       starts = starts_in_slots f starts long here;
     }
 
-pub returns-in-Made-clause-ordered : goal.returns-in-Made-clause-ordered
-returns-in-Made-clause-ordered g c =
+pub returns-clause-ordered : goal.returns-clause-ordered
+returns-clause-ordered g c =
     let f = c.args.self.now in
     let h = f.sides.height in
     let w = f.sides.width in
@@ -80,7 +80,7 @@ returns-in-Made-clause-ordered g c =
     subst
     (λ (rs : List Route). (x : ℕ) → x < length rs → (route_at starts x).start ≡ present f.steps_done (route_at rs x))
     c.deref.ensures.value c.write_starts.ensures in
-    let answer = c.in-Made.ensures.answer in
+    let answer = c.in-Ok.ensures.answer in
     let planned : Planned r h w v.square (plan_of h w routes) =
     planned_at r h w (start_square starts) v.square (plan_of h w routes) answer.1
     (λ x l. starts_shown f starts long here v c.if-not-is_at_rest.ensures c.if-not-stands.ensures x (omega (arith, answer.0.long))) in
@@ -102,12 +102,12 @@ returns-in-Made-clause-ordered g c =
       orders = c.take_on.ensures.orders;
     }
 
-pub returns-in-Unfillable-clause-ordered : goal.returns-in-Unfillable-clause-ordered
-returns-in-Unfillable-clause-ordered g c = (
+pub returns-in_default-clause-ordered : goal.returns-in_default-clause-ordered
+returns-in_default-clause-ordered g c = (
   OrderRefused.unfillable c.if-not-is_at_rest.ensures (omega arith)
       (clean_whole c.args.marks.now _ c.slots-slots.result c.slots-slots.ensures (omega arith) c.if-not-are_clean.ensures)
       c.if-not-stands.ensures
       (subst (λ (k : ℕ). RuleFor k (g.R.Rule.meaning c.args.rule.now)) c.slots-slots.ensures c.if-not-is_for.ensures)
-      (λ x. c.in-Unfillable.ensures.answer.1.none x.0 x.1),
+      (λ x. c.in_default.ensures.answer.1.none x.0 x.1),
   refl,
 )
