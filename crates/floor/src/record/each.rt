@@ -11,7 +11,7 @@ pub(super) fn write_each<T: Copy, F: Fn(&Route) -> T>(routes: &[Route], out: &mu
     requires room { length routes.now ≤ length out.old }
     ensures { (carrier : ℕ) (default : T) → carrier < length routes.now → FnReturnsAt F.Fn ask (route_at routes.now carrier) (slice_index_or out.new carrier default) }
 {
-    // Kept as it is: of a loop over `out.iter_mut().zip(routes)` no proof knows what it wrote.
+    // Kept as it is: over `out.iter_mut().zip(routes)` the ensures stays open, since no invariant can name what is written.
     for (carrier, route) in routes.iter().enumerate() {
         out[carrier] = ask(route);
     }
