@@ -6,7 +6,6 @@ use Rattle.std.proofs.lemmas.List.{drop_more, get_or-drop, get_or-map, length-ma
 use Rattle.grid.specs.Sides.{GoodSides, slot_count}
 use Rattle.rules.specs.Entries.{GoodWanted}
 use Rattle.orderfile.specs.declared.fault.OrderFault.{OrderFault}
-use Rattle.orderfile.specs.declared.fault.OrderFault.TheVariants.{BadLength}
 use Rattle.orderfile.specs.declared.rule_name.RuleName.{RuleName}
 use Rattle.orderfile.specs.declared.rule_name.RuleName.TheVariants.{Number, Kind}
 use Rattle.orderfile.specs.Records.{Lists, numbers, kinds, words, sides_byte, header_bytes, record_bytes, rule_number, GoodEntries, GoodOrder, Words, Ruled, Whole, slots_told, word_at, Entered, ReadRefused}
@@ -89,9 +88,6 @@ module _ (bytes : List ℕ) (h w : ℕ) (name : RuleName) (n : ℕ) (t : Told by
       by_name : (x : RuleName) → cond (eqb (rule_name_number x) 1) 2 3 ≡ entry_size x
       by_name Number = refl
       by_name Kind = refl
-
-  pub wrong_length : (length bytes ≡ 7 + entry_size name * n → ⊥) → ReadRefused bytes BadLength
-  wrong_length odd = inr (t.headed, t.marked, t.versioned, ruled, λ (whole : Whole bytes). odd (whole ∙ due))
 
   module _ (long : length bytes ≡ 7 + entry_size name * n) where
     whole : Whole bytes

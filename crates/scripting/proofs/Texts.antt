@@ -8,13 +8,6 @@ use Rattle.script.specs.Pasting.{Pasted}
 use Rattle.std.proofs.lemmas.Fmt.{length-decimal-le}
 use Rattle.scripting.specs.Scripts.{step_line, step_lines}
 
--- a list that was lent as a slice, and came back as long
-pub came_back :
-    (items lent out : List ℕ) (n : ℕ) → n ≡ length items → lent ≡ items → length out ≡ length lent
-    → take n (out ++ drop (length out) items) ≡ out
-came_back items lent out n long same level =
-    take_at out (drop (length out) items) n (level ∙ ap length same ∙ sym long)
-
 module _ (bytes before after : List ℕ) (at n : ℕ) (P : Pasted bytes before at n after) where
   front_long : length (take at before) ≡ at
   front_long = let r = P.room in length-take-le at before (omega arith)
