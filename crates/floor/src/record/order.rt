@@ -23,7 +23,13 @@ use rules::Rule;
 fn are_clean(marks: &[u8]) -> bool
     ensures { Tells result (Clean marks.now (length marks.now)) }
 {
-    marks.iter().all(|mark| *mark == 0)
+    // Kept as it is: that the question is asked by a loop over the elements of the lent marks is fixed.
+    for mark in marks {
+        if *mark != 0 {
+            return false;
+        }
+    }
+    true
 }
 
 // Whether the rule is for so many slots and carriers.
