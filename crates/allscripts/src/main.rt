@@ -15,11 +15,8 @@ use std::io::{Read, Write};
 fn split_record(input: &[u8]) -> Option<(&[u8], &[u8])>
     ensures { MatchOption result (length input.now < 2) (λ p. FirstRecord input.now p.0.now p.1.now) }
 {
-    if input.len() < 2 {
-        return None;
-    }
-    let told = usize::from(input[0]) * 256 + usize::from(input[1]);
-    let (_, after) = input.split_at(2);
+    let (told, after) = input.split_first_chunk()?;
+    let told = usize::from(u16::from_be_bytes(*told));
     Some(after.split_at(told.min(after.len())))
 }
 

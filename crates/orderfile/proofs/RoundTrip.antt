@@ -6,7 +6,7 @@ use Rattle.std.proofs.lemmas.List.{take_at, drop_at, ext_get_or, get_or-append-a
 use Rattle.grid.specs.Sides.{GoodSides, slot_count}
 use Rattle.orderfile.specs.declared.fault.OrderFault.{OrderFault}
 use Rattle.orderfile.specs.declared.fault.OrderFault.TheVariants.{BadSides, BadLength, BadMark, BadVersion, NoRule, BadEntry, NoRoom, NoMemory}
-use Rattle.orderfile.specs.Records.{OrderView, Lists, numbers, kinds, words, sides_byte, header_bytes, record_bytes, list_bytes, rule_number, GoodOrder, Sized, Whole, slots_told, Entered, ReadRefused, ReadsBack, WriteRefused, Written, WritesBack, lists_of, order_of}
+use Rattle.orderfile.specs.Records.{OrderView, Lists, numbers, kinds, words, sides_byte, header_bytes, record_bytes, list_bytes, rule_number, GoodOrder, Sized, Whole, slots_told, Entered, ReadRefused, ReadsBack, WriteRefused, Written, WritesBack}
 use Rattle.orderfile.proofs.Wording.{high_word, low_word}
 use Rattle.orderfile.proofs.Writing.{length_list_bytes, length_record}
 
@@ -23,7 +23,7 @@ told o g =
     let w = sides_width o.height o.width g.sides in
     cc
 
-ruled : (l : Lists) → (rule_number l ≡ 1) ⊎ (rule_number l ≡ 2)
+pub ruled : (l : Lists) → (rule_number l ≡ 1) ⊎ (rule_number l ≡ 2)
 ruled (numbers wanted) = inl refl
 ruled (kinds ks masks) = inr refl
 
@@ -171,45 +171,6 @@ pub written_reads_back :
 written_reads_back o rule buffer (Ok n) after w =
     reads_back o (take n after) w.0 (ap (take n) w.4 ∙ take_at (record_bytes o) (drop n buffer) n (sym w.2))
 written_reads_back o rule buffer (Err f) after w = tt
-
--- writing the same order under another name
-pub written_as :
-    (o p : OrderView) (rule rule' : ℕ) (buffer : List ℕ) (answer : Result ℕ OrderFault) (after : List ℕ)
-    → o ≡ p
-    → rule ≡ rule'
-    → Written o rule buffer answer after
-    → Written p rule' buffer answer after
-written_as o p rule rule' buffer answer after e f w =
-    subst (λ (x : ℕ). Written p x buffer answer after) f (subst (λ (x : OrderView). Written x rule buffer answer after) e w)
-
-lists_named : (rule : ℕ) (ks es : List ℕ) → (rule ≡ 1 → lists_of rule ks es ≡ numbers es) × (rule ≡ 2 → lists_of rule ks es ≡ kinds ks es)
-lists_named rule ks es =
-    ((λ e. ap (λ (x : ℕ). lists_of x ks es) e), (λ e. ap (λ (x : ℕ). lists_of x ks es) e))
-
-pub number_order :
-    (h w h' w' rule : ℕ) (ks es : List ℕ)
-    → h ≡ h'
-    → w ≡ w'
-    → rule ≡ 1
-    → record { height = h; width = w; lists = numbers es } ≡ order_of h' w' rule ks es
-unfolding make
-number_order h w h' w' rule ks es e f g = made_same e f (sym ((lists_named rule ks es).0 g))
-
-pub kind_order :
-    (h w h' w' rule : ℕ) (ks es : List ℕ)
-    → h ≡ h'
-    → w ≡ w'
-    → rule ≡ 2
-    → record { height = h; width = w; lists = kinds ks es } ≡ order_of h' w' rule ks es
-unfolding make
-kind_order h w h' w' rule ks es e f g = made_same e f (sym ((lists_named rule ks es).1 g))
-
-pub lists_order :
-    (h w : ℕ) (l l' : Lists)
-    → l ≡ l'
-    → ◌≡◌ {A = OrderView} (record { height = h; width = w; lists = l }) (record { height = h; width = w; lists = l' })
-unfolding make
-lists_order h w l l' e = made_same {h = h} {w = w} refl refl e
 
 pub kinds_same : (a a' b b' : List ℕ) → a ≡ a' → b ≡ b' → kinds a b ≡ kinds a' b'
 kinds_same a a' b b' e f = cc

@@ -5,6 +5,8 @@
 #![tactic(auto)]
 
 pub mod fault;
+mod lists;
 pub mod order;
 pub mod read;
+mod rule_name;
 pub mod write;

@@ -1,25 +1,19 @@
-ghost use Rattle.std.specs.Prelude.{◌≡◌, ℕ, ◌+◌, ◌*◌, ◌<◌, ◌≤◌, [], length, IfOk, vec_len, vec_capacity, MatchBool, MatchOption, MatchResult};
-ghost use Rattle.orderfile.specs.declared.fault.OrderFault.TheVariants.{NoMemory};
-ghost use Rattle.orderfile.specs.Records.{words, word_at, Marked, Versioned, Known, ReadRefused, Read, WritesBack};
+ghost use Rattle.std.specs.Prelude.{◌≡◌, ℕ, ◌*◌, ◌<◌, ◌↔◌, List, length, All, IfOk, IsTrue, MatchResult};
+ghost use Rattle.orderfile.specs.Records.{word_at, ReadRefused, Read, WritesBack};
 ghost use Rattle.orderfile.specs.Orders.{shown, shown_answer};
-ghost use Rattle.orderfile.specs.Reading.{Told, rule_name_number};
+ghost use Rattle.orderfile.specs.RuleNames.{rule_name_number, entry_size};
+ghost use Rattle.orderfile.specs.Reading.{Told, RuleRead, entries_in};
 
 use crate::fault::OrderFault;
 use crate::order::Order;
+use crate::rule_name::RuleName;
 use crate::write::HEADER;
 use grid::sides::Sides;
 use rules::any::AnyRule;
 use rules::kind::KindRule;
 use rules::kind::acts::all_kinds_exist;
 use rules::number::NumberRule;
-use std::alloc::Global;
-
-// The rule that a record names.
-#[derive(Clone, Copy)]
-enum RuleName {
-    Number,
-    Kind,
-}
+use std::alloc::{AllocError, Global};
 
 // What stands before the lists, but for the mark and the version.
 #[derive(Clone, Copy)]
@@ -28,147 +22,79 @@ struct Header {
     rule: RuleName,
 }
 
-fn is_marked(bytes: &[u8]) -> bool
-    requires { 7 ≤ length bytes.now }
-    ensures { MatchBool result (Marked bytes.now) (Marked bytes.now → ⊥) }
-{
-    bytes[0] == b'L' && bytes[1] == b'F' && bytes[2] == b'O'
-}
-
-fn is_version_1(bytes: &[u8]) -> bool
-    requires { 7 ≤ length bytes.now }
-    ensures { MatchBool result (Versioned bytes.now) (Versioned bytes.now → ⊥) }
-{
-    bytes[3] == 0 && bytes[4] == 1
-}
-
-fn rule_name(number: u8) -> Option<RuleName>
-    ensures { MatchOption result (Known number → ⊥) (λ n. rule_name_number n ≡ number) }
-{
-    match number {
-        1 => Some(RuleName::Number),
-        2 => Some(RuleName::Kind),
-        _ => None,
-    }
-}
-
 fn read_header(bytes: &[u8]) -> Result<Header, OrderFault>
     ensures { MatchResult result (λ h. Told bytes.now h.sides.height h.sides.width (rule_name_number h.rule)) (λ f. ReadRefused bytes.now f) }
 {
-    if bytes.len() < HEADER {
-        return Err(OrderFault::BadLength);
-    }
-    if !is_marked(bytes) {
+    let header = bytes.first_chunk::<HEADER>().ok_or(OrderFault::BadLength)?;
+    let [first, second, third, high, low, sides, rule] = *header;
+    if [first, second, third] != *b"LFO" {
         return Err(OrderFault::BadMark);
     }
-    if !is_version_1(bytes) {
+    if [high, low] != [0, 1] {
         return Err(OrderFault::BadVersion);
     }
-    let Some(rule) = rule_name(bytes[6]) else {
-        return Err(OrderFault::NoRule);
-    };
-    let high = bytes[5] as usize / 16;
-    let low = bytes[5] as usize % 16;
-    let Some(sides) = Sides::new(high + 1, low + 1) else {
-        return Err(OrderFault::BadSides);
-    };
+    let rule = RuleName::try_from(rule)?;
+    let height = usize::from(sides / 16) + 1;
+    let width = usize::from(sides % 16) + 1;
+    let sides = Sides::new(height, width).ok_or(OrderFault::BadSides)?;
     Ok(Header { sides, rule })
 }
 
-// The 16-bit entry at a place.
-fn word(bytes: &[u8], at: usize) -> u16
-    requires { at + 1 < length bytes.now }
-    ensures { result ≡ word_at bytes.now at }
+// The 16-bit entry in two bytes, high byte first.
+fn word(pair: &[u8; 2]) -> u16
+    ensures { result ≡ word_at pair.now 0 }
 {
-    u16::from(bytes[at]) * 256 + u16::from(bytes[at + 1])
+    u16::from_be_bytes(*pair)
 }
 
-// Whether the 16-bit entries are all below a limit.
-fn all_words_below(bytes: &[u8], count: usize, limit: usize) -> bool
-    requires { length bytes.now ≡ 2 * count }
-    ensures { MatchBool result ((s : ℕ) → s < count → word_at bytes.now (2 * s) < limit) (((s : ℕ) → s < count → word_at bytes.now (2 * s) < limit) → ⊥) }
+// Whether the entries are all below a limit.
+fn all_entries_below(pairs: &[[u8; 2]], limit: usize) -> bool
+    ensures { IsTrue result ↔ All (λ (pair : List ℕ). word_at pair 0 < limit) pairs.now }
 {
-    for s in 0..count {
-        if word(bytes, 2 * s) as usize >= limit {
-            return false;
-        }
-    }
-    true
+    pairs.iter().all(|pair| usize::from(word(pair)) < limit)
 }
 
-// An empty list with room for so many: the one place where reading asks for memory.
-fn reserve<T>(heap: Global, count: usize) -> Result<Vec<T>, OrderFault>
-    ensures { MatchResult result (λ v. (v.items ≡ []) × (vec_len v ≡ 0) × (count ≤ vec_capacity v)) (λ f. f ≡ NoMemory) }
+// The kinds and the entries in lists of their own: the one place where reading asks for memory.
+fn kept(heap: Global, kinds: &[u8], pairs: &[[u8; 2]]) -> Result<(Vec<u8>, Vec<u16>), AllocError>
+    ensures { IfOk result (λ lists. (lists.0.items ≡ kinds.now) × (lists.1.items ≡ entries_in pairs.now)) }
 {
-    match Vec::with_capacity(heap, count) {
-        Ok(list) => Ok(list),
-        Err(_) => Err(OrderFault::NoMemory),
-    }
+    let kinds = Vec::from_slice(heap, kinds)?;
+    let entries = pairs.iter().map(word).collect(heap)?;
+    Ok((kinds, entries))
 }
 
-fn fill_bytes(list: &mut Vec<u8>, bytes: &[u8])
-    requires { (list.old.items ≡ []) × ((vec_len list.old ≡ 0) × (length bytes.now ≤ vec_capacity list.old)) }
-    ensures { list.new.items ≡ bytes.now }
+fn read_wanted(heap: Global, slots: usize, body: &[u8]) -> Result<AnyRule, OrderFault>
+    requires { length body.now ≡ 2 * slots }
+    ensures { RuleRead RuleName.Number slots body.now result }
 {
-    for byte in bytes {
-        list.push_reserved(*byte);
-    }
-}
-
-fn fill_words(list: &mut Vec<u16>, bytes: &[u8], count: usize)
-    requires { (list.old.items ≡ []) × ((vec_len list.old ≡ 0) × ((count ≤ vec_capacity list.old) × (length bytes.now ≡ 2 * count))) }
-    ensures { words list.new.items ≡ bytes.now }
-{
-    for s in 0..count {
-        list.push_reserved(word(bytes, 2 * s));
-    }
-}
-
-fn read_number(heap: Global, sides: Sides, bytes: &[u8]) -> Result<Order, OrderFault>
-    requires { Told bytes.now sides.height sides.width 1 }
-    ensures { Read bytes.now (shown_answer result) }
-{
-    let slots = sides.slots();
-    if bytes.len() != HEADER + 2 * slots {
-        return Err(OrderFault::BadLength);
-    }
-    let body = &bytes[HEADER..];
-    if !all_words_below(body, slots, slots) {
+    let (pairs, _) = body.as_chunks();
+    if !all_entries_below(pairs, slots) {
         return Err(OrderFault::BadEntry);
     }
-    let mut wanted = reserve(heap, slots)?;
-    fill_words(&mut wanted, body, slots);
-    match NumberRule::new(wanted) {
-        Ok(rule) => Ok(Order {
-            sides,
-            rule: AnyRule::Number(rule),
-        }),
-        Err(_) => Err(OrderFault::BadEntry),
-    }
+    let (_, wanted) = kept(heap, &[], pairs)?;
+    Ok(NumberRule::new(wanted)?.into())
 }
 
-fn read_kind(heap: Global, sides: Sides, bytes: &[u8]) -> Result<Order, OrderFault>
-    requires { Told bytes.now sides.height sides.width 2 }
-    ensures { Read bytes.now (shown_answer result) }
+fn read_kinds(heap: Global, slots: usize, body: &[u8]) -> Result<AnyRule, OrderFault>
+    requires { length body.now ≡ 3 * slots }
+    ensures { RuleRead RuleName.Kind slots body.now result }
 {
-    let slots = sides.slots();
-    if bytes.len() != HEADER + 3 * slots {
-        return Err(OrderFault::BadLength);
-    }
-    let (front, back) = bytes[HEADER..].split_at(slots);
-    if !all_kinds_exist(front) {
+    let (kinds, masks) = body.split_at(slots);
+    if !all_kinds_exist(kinds) {
         return Err(OrderFault::BadEntry);
     }
-    let mut kinds = reserve(heap, slots)?;
-    let mut masks = reserve(heap, slots)?;
-    fill_bytes(&mut kinds, front);
-    fill_words(&mut masks, back, slots);
-    match KindRule::new(kinds, masks) {
-        Ok(rule) => Ok(Order {
-            sides,
-            rule: AnyRule::Kind(rule),
-        }),
-        Err(_) => Err(OrderFault::BadEntry),
+    let (pairs, _) = masks.as_chunks();
+    let (kinds, masks) = kept(heap, kinds, pairs)?;
+    Ok(KindRule::new(kinds, masks)?.into())
+}
+
+fn read_rule(heap: Global, rule: RuleName, slots: usize, body: &[u8]) -> Result<AnyRule, OrderFault>
+    requires { length body.now ≡ entry_size rule * slots }
+    ensures { RuleRead rule slots body.now result }
+{
+    match rule {
+        RuleName::Number => read_wanted(heap, slots, body),
+        RuleName::Kind => read_kinds(heap, slots, body),
     }
 }
 
@@ -177,9 +103,11 @@ pub fn read(heap: Global, bytes: &[u8]) -> Result<Order, OrderFault>
     ensures read { Read bytes.now (shown_answer result) }
     ensures writes_back { IfOk result (λ o. WritesBack (shown o) bytes.now) }
 {
-    let header = read_header(bytes)?;
-    match header.rule {
-        RuleName::Number => read_number(heap, header.sides, bytes),
-        RuleName::Kind => read_kind(heap, header.sides, bytes),
+    let Header { sides, rule } = read_header(bytes)?;
+    let slots = sides.slots();
+    if bytes.len() != HEADER + rule.entry_size() * slots {
+        return Err(OrderFault::BadLength);
     }
+    let rule = read_rule(heap, rule, slots, &bytes[HEADER..])?;
+    Ok(Order { sides, rule })
 }

@@ -13,10 +13,7 @@ fn show(rt: &HostRuntime, bytes: &[u8]) -> io::Result<()> {
             let text = order_words(rt.alloc(), &order)?;
             rt.print(text.as_str())
         }
-        Err(fault) => {
-            let number = fault.number();
-            println!(rt; "refused {number}")
-        }
+        Err(fault) => println!(rt; "refused {}", fault.number()),
     }
 }
 
@@ -27,18 +24,17 @@ fn show_input(rt: &HostRuntime) -> io::Result<()> {
 }
 
 fn main(rt: HostRuntime) -> io::Result<()> {
-    let mut none_named = true;
-    for name in env::args(&rt)?.skip(1) {
-        none_named = false;
+    let mut names = env::args(&rt)?.skip(1).peekable();
+    if names.peek().is_none() {
+        return show_input(&rt);
+    }
+    for name in names {
         if name.as_str() == "-" {
             show_input(&rt)?;
         } else {
             let bytes = fs::read(&rt, name.as_str())?;
             show(&rt, &bytes)?;
         }
-    }
-    if none_named {
-        show_input(&rt)?;
     }
     Ok(())
 }

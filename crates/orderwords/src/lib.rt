@@ -4,70 +4,76 @@
 // order. Rests on: grid, rules, orderfile.
 #![tactic(auto)]
 
-ghost use Rattle.std.specs.Prelude.{◌≡◌, ◌+◌, ◌/◌, ◌%◌, ◌<◌, [], ◌++◌, IfOk, if◌then◌else◌, string_bytes, codes, decimal, OnOk};
+ghost use Rattle.std.specs.Prelude.{◌≡◌, IfOk, Some, string_bytes};
 ghost use Rattle.rules.specs.AnyRule.{any_meaning};
-ghost use Rattle.orderwords.specs.Words.{carriers_text, slot_text, slots_text, order_text};
+ghost use Rattle.orderwords.specs.Words.{carriers_text, slot_text, slots_text, rule_text, order_text};
 
 use orderfile::order::Order;
 use rules::Rule;
 use rules::any::AnyRule;
 use std::alloc::{AllocError, Global};
-
-// Adds a carrier to the text, after a space, if it will do in the slot.
-fn push_carrier<R: Rule>(
-    heap: Global,
-    text: &mut String,
-    rule: &R,
-    slot: usize,
-    carrier: usize,
-) -> Result<(), AllocError>
-    ensures { OnOk result (string_bytes text.new ≡ string_bytes text.old ++ (if (R.Rule.meaning rule.now).admits slot carrier then codes " " ++ decimal carrier else [])) }
-{
-    if !rule.admits(slot, carrier) {
-        return Ok(());
-    }
-    let word = format!(in heap; " {carrier}")?;
-    text.push_str(word.as_str())
-}
+use std::fmt;
 
 // The carriers that will do in a slot, each after a space.
-fn carriers_words<R: Rule>(heap: Global, rule: &R, slot: usize) -> Result<String, AllocError>
-    ensures { IfOk result (λ t. string_bytes t ≡ carriers_text ((R.Rule.meaning rule.now).admits slot) (R.Rule.meaning rule.now).carriers) }
-{
-    let mut text = String::new(heap);
-    for carrier in 0..rule.carriers() {
-        push_carrier(heap, &mut text, rule, slot, carrier)?;
+#[derive(Clone, Copy)]
+struct Carriers<'a> {
+    rule: &'a AnyRule,
+    slot: usize,
+}
+
+impl fmt::Display for Carriers<'_> {
+    ghost output = { λ c. Some (carriers_text ((any_meaning c.rule.now).admits c.slot) (any_meaning c.rule.now).carriers) };
+
+    fn fmt<W: fmt::Write>(&self, f: &mut fmt::Formatter<W>) -> fmt::Result {
+        for carrier in 0..self.rule.carriers() {
+            let will_do = self.rule.admits(self.slot, carrier);
+            if will_do {
+                write!(f, " {carrier}")?;
+            }
+        }
+        Ok(())
     }
-    Ok(text)
 }
 
 // A slot's line.
-fn slot_words<R: Rule>(
-    heap: Global,
-    rule: &R,
-    bays: usize,
+#[derive(Clone, Copy)]
+struct SlotLine<'a> {
+    order: &'a Order,
     slot: usize,
-) -> Result<String, AllocError>
-    requires { 0 < bays }
-    ensures { IfOk result (λ t. string_bytes t ≡ slot_text (R.Rule.meaning rule.now) bays slot) }
-{
-    let carriers = carriers_words(heap, rule, slot)?;
-    let row = slot / bays;
-    let bay = slot % bays;
-    format!(in heap; "slot {slot} (row {row}, bay {bay}):{carriers}\n")
+}
+
+impl fmt::Display for SlotLine<'_> {
+    ghost output = { λ l. Some (slot_text (any_meaning l.order.now.rule) l.order.now.sides.width l.slot) };
+
+    fn fmt<W: fmt::Write>(&self, f: &mut fmt::Formatter<W>) -> fmt::Result {
+        let SlotLine { order, slot } = *self;
+        let row = slot / order.sides.width;
+        let bay = slot % order.sides.width;
+        let carriers = Carriers {
+            rule: &order.rule,
+            slot,
+        };
+        write!(f, "slot {slot} (row {row}, bay {bay}):{carriers}\n")
+    }
 }
 
 // A line for each slot.
-fn slots_words<R: Rule>(heap: Global, rule: &R, bays: usize) -> Result<String, AllocError>
-    requires { 0 < bays }
-    ensures { IfOk result (λ t. string_bytes t ≡ slots_text (R.Rule.meaning rule.now) bays (R.Rule.meaning rule.now).slots) }
-{
-    let mut text = String::new(heap);
-    for slot in 0..rule.slots() {
-        let line = slot_words(heap, rule, bays, slot)?;
-        text.push_str(line.as_str())?;
+#[derive(Clone, Copy)]
+struct SlotLines<'a>(&'a Order);
+
+impl fmt::Display for SlotLines<'_> {
+    ghost output = { λ l. Some (slots_text (any_meaning l.0.now.rule) l.0.now.sides.width (any_meaning l.0.now.rule).slots) };
+
+    fn fmt<W: fmt::Write>(&self, f: &mut fmt::Formatter<W>) -> fmt::Result {
+        for slot in 0..self.0.rule.slots() {
+            let line = SlotLine {
+                order: self.0,
+                slot,
+            };
+            write!(f, "{line}")?;
+        }
+        Ok(())
     }
-    Ok(text)
 }
 
 // What an order asks for: the floor, the rule, and slot by slot which carriers will do.
@@ -81,6 +87,6 @@ pub fn order_words(heap: Global, order: &Order) -> Result<String, AllocError>
         AnyRule::Number(_) => "number",
         AnyRule::Kind(_) => "kind",
     };
-    let lines = slots_words(heap, &order.rule, width)?;
+    let lines = SlotLines(order);
     format!(in heap; "floor of {height} by {width} cells, {slots} slots, {rule} rule\n{lines}")
 }

@@ -1,96 +1,81 @@
+use crate::records::{KIND, NUMBER};
+use orderfile::fault::OrderFault;
 use orderfile::read::read;
 use std::alloc::Global;
+use std::process::Abort;
 use std::test::Fail;
 
-// 1 by 1, wanted 2 1 0.
-const NUMBER: [u8; 13] = [76, 70, 79, 0, 1, 0, 1, 0, 2, 0, 1, 0, 0];
-
-// 1 by 1, kinds 1 2 3, masks 12 6 10.
-const KIND: [u8; 16] = [76, 70, 79, 0, 1, 0, 2, 1, 2, 3, 0, 12, 0, 6, 0, 10];
-
-// A record with another byte at a place, and the refusal that it gets; 0 for none.
-#[derive(Clone, Copy)]
-struct Damage {
-    at: usize,
-    byte: u8,
-    refusal: u8,
+// The number of the refusal to read, if there is one.
+fn refusal(heap: Global, bytes: &[u8]) -> Option<u8> {
+    read(heap, bytes).err().map(OrderFault::number)
 }
 
-const fn with(at: usize, byte: u8, refusal: u8) -> Damage {
-    Damage { at, byte, refusal }
-}
-
-// The number of the refusal to read, or 0.
-fn refusal(heap: Global, bytes: &[u8]) -> u8 {
-    match read(heap, bytes) {
-        Ok(_) => 0,
-        Err(fault) => fault.number(),
+// Reads the record with another byte at a place, for each of these places and bytes, and looks at the refusal.
+fn try_damages(
+    rt: &impl Abort,
+    heap: Global,
+    whole: &[u8],
+    damages: &[(usize, u8, Option<u8>)],
+) -> Result<(), Fail> {
+    for (at, byte, wanted) in damages {
+        let mut bytes = Vec::from_slice(heap, whole)?;
+        if let Some(place) = bytes.get_mut(*at) {
+            *place = *byte;
+        }
+        assert_eq!(rt; refusal(heap, &bytes), *wanted);
     }
-}
-
-fn damaged(heap: Global, whole: &[u8], damage: &Damage) -> Result<u8, Fail> {
-    let mut bytes = Vec::from_slice(heap, whole)?;
-    if damage.at < bytes.len() {
-        bytes[damage.at] = damage.byte;
-    }
-    Ok(refusal(heap, &bytes))
+    Ok(())
 }
 
 #[test]
 fn number_records_with_a_wrong_byte(rt: HostRuntime) -> Result<(), Fail> {
-    let cases = [
-        with(0, 76, 0),
-        with(0, 108, 32),
-        with(1, 71, 32),
-        with(2, 48, 32),
-        with(3, 1, 33),
-        with(4, 0, 33),
-        with(4, 2, 33),
-        with(5, 1, 31),
-        with(5, 16, 31),
-        with(6, 0, 34),
-        with(6, 2, 31),
-        with(6, 3, 34),
-        with(7, 1, 35),
-        with(8, 3, 35),
-        with(12, 2, 0),
-        with(12, 3, 35),
+    let damages = [
+        (0, 76, None),
+        (0, 108, Some(32)),
+        (1, 71, Some(32)),
+        (2, 48, Some(32)),
+        (3, 1, Some(33)),
+        (4, 0, Some(33)),
+        (4, 2, Some(33)),
+        (5, 1, Some(31)),
+        (5, 16, Some(31)),
+        (6, 0, Some(34)),
+        (6, 2, Some(31)),
+        (6, 3, Some(34)),
+        (7, 1, Some(35)),
+        (8, 3, Some(35)),
+        (12, 2, None),
+        (12, 3, Some(35)),
     ];
-    for case in cases.iter() {
-        assert_eq!(rt; damaged(rt.alloc(), &NUMBER, case)?, case.refusal);
-    }
-    Ok(())
+    try_damages(&rt, rt.alloc(), &NUMBER, &damages)
 }
 
 #[test]
 fn kind_records_with_a_wrong_byte(rt: HostRuntime) -> Result<(), Fail> {
-    let cases = [
-        with(0, 76, 0),
-        with(6, 1, 31),
-        with(7, 15, 0),
-        with(7, 16, 35),
-        with(9, 255, 35),
-        with(10, 255, 0),
-        with(15, 255, 0),
+    let damages = [
+        (0, 76, None),
+        (6, 1, Some(31)),
+        (7, 15, None),
+        (7, 16, Some(35)),
+        (9, 255, Some(35)),
+        (10, 255, None),
+        (15, 255, None),
     ];
-    for case in cases.iter() {
-        assert_eq!(rt; damaged(rt.alloc(), &KIND, case)?, case.refusal);
-    }
-    Ok(())
+    try_damages(&rt, rt.alloc(), &KIND, &damages)
 }
 
 #[test]
 fn records_of_a_wrong_length(rt: HostRuntime) -> Result<(), Fail> {
     let heap = rt.alloc();
     for length in 0..NUMBER.len() {
-        assert_eq!(rt; refusal(heap, &NUMBER[..length]), 31);
+        assert_eq!(rt; refusal(heap, &NUMBER[..length]), Some(31));
     }
     for length in 0..KIND.len() {
-        assert_eq!(rt; refusal(heap, &KIND[..length]), 31);
+        assert_eq!(rt; refusal(heap, &KIND[..length]), Some(31));
     }
     let mut long = Vec::from_slice(heap, &NUMBER)?;
     long.push(0)?;
-    assert_eq!(rt; refusal(heap, &long), 31);
+    assert_eq!(rt; refusal(heap, &long), Some(31));
     Ok(())
 }
 
@@ -98,9 +83,9 @@ fn records_of_a_wrong_length(rt: HostRuntime) -> Result<(), Fail> {
 #[test]
 fn the_first_wrong_answer_is_given(rt: HostRuntime) {
     let heap = rt.alloc();
-    assert_eq!(rt; refusal(heap, &[76, 70, 78, 9, 9, 0]), 31);
-    assert_eq!(rt; refusal(heap, &[76, 70, 78, 9, 9, 0, 9]), 32);
-    assert_eq!(rt; refusal(heap, &[76, 70, 79, 9, 9, 0, 9]), 33);
-    assert_eq!(rt; refusal(heap, &[76, 70, 79, 0, 1, 0, 9]), 34);
-    assert_eq!(rt; refusal(heap, &[76, 70, 79, 0, 1, 0, 1]), 31);
+    assert_eq!(rt; refusal(heap, &[76, 70, 78, 9, 9, 0]), Some(31));
+    assert_eq!(rt; refusal(heap, &[76, 70, 78, 9, 9, 0, 9]), Some(32));
+    assert_eq!(rt; refusal(heap, &[76, 70, 79, 9, 9, 0, 9]), Some(33));
+    assert_eq!(rt; refusal(heap, &[76, 70, 79, 0, 1, 0, 9]), Some(34));
+    assert_eq!(rt; refusal(heap, &[76, 70, 79, 0, 1, 0, 1]), Some(31));
 }

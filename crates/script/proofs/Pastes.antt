@@ -21,7 +21,3 @@ pasted before part bytes at n room same long =
           ∙ ap (λ (t : List ℕ). take at before ++ (bytes ++ t))
           (drop-drop k at before ∙ ap (λ (j : ℕ). drop (at + j) before) e);
     }
-
--- a part from the start
-pub front : (part bytes : List ℕ) (n : ℕ) → part ≡ take (n - 0) bytes → part ≡ take n bytes
-front part bytes n e = let z : n - 0 ≡ n = omega arith in e ∙ ap (λ (k : ℕ). take k bytes) z

@@ -1,3 +1,2 @@
 pub mod Pasting
-pub mod Drafts
 pub mod Lines

@@ -2,10 +2,9 @@
 // caller's buffer on, or refused for want of room, and then nothing is written.
 //
 // For: the floor, whose steps are lines too, and the programs. Promises: specs/Lines.antt says which bytes each line is,
-// specs/Pasting.antt what becomes of the buffer. No call allocates or requires anything; the drafts, which do, are not
-// seen outside. Rests on: chain, for the refusals.
+// specs/Pasting.antt what becomes of the buffer. No call allocates or requires anything: a line is made in a string of
+// fixed room. Rests on: chain, for the refusals.
 #![tactic(auto)]
 
-mod draft;
 pub mod lines;
 pub mod room;

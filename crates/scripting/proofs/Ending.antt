@@ -14,7 +14,7 @@ use Rattle.scripting.specs.Scripts.{ScriptFor}
 use Rattle.scripting.specs.Writing.{written, InPhase, page_account, Closed}
 use Rattle.scripting.specs.declared.page.Page.{Page}
 use Rattle.scripting.specs.declared.page.Phase.{Phase}
-use Rattle.scripting.specs.declared.page.Phase.TheVariants.{Ordering, Asked, Writing, Stepping, Over, Refused}
+use Rattle.scripting.specs.declared.page.Phase.TheVariants.{Ordering, Writing, Stepping, Over, Refused}
 use Rattle.scripting.proofs.Keeping.{AccountOf, in_phase}
 
 -- there are fewer events than calls in the budget
@@ -23,7 +23,6 @@ few_events :
     → InPhase s o f v n ph
     → n ≤ longest o.height o.width + 1
 few_events s o f v n Ordering p = let e = p.1 in omega arith
-few_events s o f v n Asked p = let e = p.1 in omega arith
 few_events s o f v n Writing p = let e = p.2 in let a = p.1 in let b = p.0.short in omega arith
 few_events s o f v n Stepping p = let e = p.2 in let a = p.1 in let b = p.0.short in omega arith
 few_events s o f v n Over p = p.3

@@ -1,5 +1,5 @@
 -- The account of a writer is kept from call to call.
-use Rattle.std.proofs.Common.{◌≡◌, ℕ, suc, ◌+◌, ◌*◌, ◌<◌, ◌≤◌, true, List, [], ◌∷◌, ◌++◌, length, take, Ok, Err, vec_items, sym, refl, ap, ◌∙◌, subst, append_assoc, append-nil, mul-le-mul_right, suc-mul, zero-add, add-one, arith, length-append}
+use Rattle.std.proofs.Common.{◌≡◌, ℕ, suc, ◌+◌, ◌*◌, ◌<◌, ◌≤◌, List, [], ◌∷◌, ◌++◌, length, take, Ok, Err, vec_items, sym, refl, ap, ◌∙◌, subst, append_assoc, append-nil, mul-le-mul_right, suc-mul, zero-add, add-one, arith, length-append}
 use Rattle.std.proofs.lemmas.List.{length-take-le}
 use Rattle.deck.specs.Decks.{DeckView}
 use Rattle.rules.specs.Rules.{RuleView}
@@ -7,7 +7,7 @@ use Rattle.motion.specs.Plans.{Plan, whole, plan_steps}
 use Rattle.motion.specs.Carrying.{longest}
 use Rattle.orderfile.specs.Records.{OrderView, GoodOrder}
 use Rattle.chain.specs.declared.fault.FloorFault.{FloorFault}
-use Rattle.chain.specs.Floors.{FloorView, slots, with_done, Kept}
+use Rattle.chain.specs.Floors.{FloorView, slots, Kept}
 use Rattle.chain.specs.Calls.{StepRefused, Stepped, Ordered}
 use Rattle.chain.proofs.Fitting.{many}
 use Rattle.script.specs.Lines.{first_line_bytes}
@@ -19,7 +19,7 @@ use Rattle.serve.specs.Choices.{Choice}
 use Rattle.scripting.specs.Writing.{written, Holds, AtHome, Underway, InPhase, page_chosen}
 use Rattle.scripting.specs.declared.page.Page.{Page}
 use Rattle.scripting.specs.declared.page.Phase.{Phase}
-use Rattle.scripting.specs.declared.page.Phase.TheVariants.{Asked, Writing, Stepping, Over, Refused}
+use Rattle.scripting.specs.declared.page.Phase.TheVariants.{Ordering, Writing, Stepping, Over, Refused}
 use Rattle.scripting.proofs.Texts.{pasted_take, pasted_long, step_lines_long, first_line_short}
 use Rattle.scripting.proofs.Plans.{only_unfillable, plan_of, short, stands}
 
@@ -183,7 +183,7 @@ all_written s s' o f v n fault e e' tall wide used (LineRefused.no_room left few
 module _ (s : Page) (o : OrderView) (f g : FloorView) (v : DeckView) (k : ℕ) (r : RuleView) (marks : List ℕ)
     (a : AccountOf s o f v k) (chosen : page_chosen o s (Choice.order r marks)) where
   asked : AtHome o f v × (k ≡ 0)
-  asked = in_phase s o f v k Asked chosen.0 a
+  asked = in_phase s o f v k Ordering chosen.0 a
 
   same_line : (n : ℕ) → first_line_bytes s.sides.height s.sides.width n ≡ first_line_bytes o.height o.width n
   same_line n =
@@ -279,45 +279,3 @@ never_refused s o f g v w k fault e a (StepRefused.go_refused l st idle h, same)
     let r = b.0.ready in
     let z : ◌≡◌ {A = ℕ} 0 1 = cc in
     omega arith
-
--- A step is made, and leaves a deck that is always ready so.
-pub step_made :
-    (s s' : Page) (o : OrderView) (f g : FloorView) (v w : DeckView) (k n : ℕ)
-    → s.phase ≡ Stepping
-    → s'.phase ≡ Writing
-    → s'.sides.height ≡ s.sides.height
-    → s'.sides.width ≡ s.sides.width
-    → s'.used ≡ s.used
-    → vec_items s'.text ≡ vec_items s.text
-    → w.ready ≡ true
-    → AccountOf s o f v k
-    → Stepped f v (Ok n) g w
-    → AccountOf s' o g w (suc k)
-step_made s s' o f g v w k n e e' tall wide used text ready a (left, count, M) =
-    let b = in_phase s o f v k Stepping e a in
-    let U = b.0 in
-    let is : g ≡ with_done f (f.done + 1) = M.recorded ∙ ap (with_done f) count in
-    let kept : AccountOf s' o (with_done f (f.done + 1)) w (suc k) =
-    of_phase s' o (with_done f (f.done + 1)) w (suc k) Writing e' (still_holds s s' o tall wide (ap length text) a.0) (
-      record {
-        height = U.height;
-        width = U.width;
-        planned = U.planned;
-        length_is = U.length_is;
-        short = U.short;
-        stands = record {
-          sized = record {
-            rows = M.floor.rows ∙ U.stands.sized.rows;
-            columns = M.floor.columns ∙ U.stands.sized.columns;
-            carriers = M.floor.carriers ∙ U.stands.sized.carriers;
-          };
-          placed = λ c l. M.placed c l ∙ ap (λ (t : ℕ). (whole f.plan).place t c) count;
-        };
-        ready = ready;
-        inside = (let i = U.inside in let l = ap length text in omega arith);
-        text = ap (λ (n : ℕ). take n (vec_items s'.text)) used ∙ ap (take s.used) text ∙ U.text;
-      },
-      (let l = b.1 in omega arith),
-      (let c = b.2 in omega arith),
-    ) in
-    subst (λ (x : FloorView). AccountOf s' o x w (suc k)) (sym is) kept

@@ -1,19 +1,12 @@
 -- Texts that are written line by line, and how long they are.
-use Rattle.std.proofs.Common.{◌≡◌, ℕ, zero, suc, ◌+◌, ◌*◌, ◌^◌, ◌<◌, ◌≤◌, List, ◌++◌, length, take, drop, sym, refl, ap, ◌∙◌, append_assoc, suc-mul, zero-mul, arith, length-append, length-drop}
+use Rattle.std.proofs.Common.{◌≡◌, ℕ, zero, suc, ◌+◌, ◌*◌, ◌^◌, ◌<◌, ◌≤◌, List, ◌++◌, length, take, drop, decimal, sym, refl, ap, ◌∙◌, append_assoc, suc-mul, zero-mul, arith, length-append, length-drop}
 use Rattle.std.proofs.lemmas.List.{take_at, length-take-le}
 use Rattle.std.proofs.lemmas.List.FromFn.{length-map-range_with_len}
 use Rattle.motion.specs.Plans.{Plan}
-use Rattle.script.specs.Lines.{first_line_bytes, refused_line_bytes}
+use Rattle.script.specs.Lines.{first_line_bytes}
 use Rattle.script.specs.Pasting.{Pasted}
-use Rattle.script.proofs.Numbers.{short}
+use Rattle.std.proofs.lemmas.Fmt.{length-decimal-le}
 use Rattle.scripting.specs.Scripts.{step_line, step_lines}
-
--- a list that was lent as a slice, and came back as long
-pub came_back :
-    (items lent out : List ℕ) (n : ℕ) → n ≡ length items → lent ≡ items → length out ≡ length lent
-    → take n (out ++ drop (length out) items) ≡ out
-came_back items lent out n long same level =
-    take_at out (drop (length out) items) n (level ∙ ap length same ∙ sym long)
 
 module _ (bytes before after : List ℕ) (at n : ℕ) (P : Pasted bytes before at n after) where
   front_long : length (take at before) ≡ at
@@ -47,8 +40,8 @@ step_lines_long p (suc t) =
     let c = suc-mul t (p.carriers + 1) in
     omega arith)
 
+short : (n : ℕ) → n < 2 ^ 64 → length (decimal n) ≤ 20
+short n fits = length-decimal-le 20 n (omega arith) (omega arith) fits
+
 pub first_line_short : (h w n : ℕ) → h < 2 ^ 64 → w < 2 ^ 64 → n < 2 ^ 64 → length (first_line_bytes h w n) ≤ 80
 first_line_short h w n fh fw fn = simp length-append (omega (arith, short h fh, short w fw, short n fn))
-
-pub refused_line_short : (n : ℕ) → n < 2 ^ 64 → length (refused_line_bytes n) ≤ 80
-refused_line_short n fits = simp length-append (omega (arith, short n fits))

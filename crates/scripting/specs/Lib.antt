@@ -1,7 +1,7 @@
 pub mod Orders
 pub mod Scripts
 pub mod Theorems
-pub mod Lines
+pub mod Refusals
 pub mod Texts
 pub mod Asking
 pub mod Writing

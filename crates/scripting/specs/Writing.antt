@@ -14,7 +14,7 @@ use Rattle.scripting.specs.Orders.{order_rule, order_slots, new_place}
 use Rattle.scripting.specs.Scripts.{step_lines, plan_script, PlanOf}
 use Rattle.scripting.specs.declared.page.Page.{Page}
 use Rattle.scripting.specs.declared.page.Phase.{Phase}
-use Rattle.scripting.specs.declared.page.Phase.TheVariants.{Ordering, Asked, Writing, Stepping, Over, Refused}
+use Rattle.scripting.specs.declared.page.Phase.TheVariants.{Ordering, Writing, Stepping, Over, Refused}
 
 -- what is written so far
 abbrev pub written : Page → List ℕ
@@ -56,7 +56,6 @@ pub record Underway (s : Page) (o : OrderView) (f : FloorView) (v : DeckView) (l
 -- of it.
 abbrev pub InPhase : Page → OrderView → FloorView → DeckView → ℕ → Phase → Type 0
 InPhase s o f v events Ordering = AtHome o f v × (events ≡ 0)
-InPhase s o f v events Asked = AtHome o f v × (events ≡ 0)
 InPhase s o f v events Writing = Underway s o f v f.done × (f.done ≤ f.length) × (events ≡ f.done + 1)
 InPhase s o f v events Stepping = Underway s o f v (f.done + 1) × (f.done < f.length) × (events ≡ f.done + 1)
 InPhase s o f v events Over =
@@ -69,14 +68,13 @@ page_account o s f v es = Holds s o × InPhase s o f v (length es) s.phase
 -- a call is the order, or a step whose line is written
 abbrev pub page_chosen : OrderView → Page → Choice → Type 0
 page_chosen o s (Choice.order r marks) =
-    (s.phase ≡ Asked) × (r ≡ order_rule o) × (marks ≡ replicate (order_slots o) 0)
+    (s.phase ≡ Ordering) × (r ≡ order_rule o) × (marks ≡ replicate (order_slots o) 0)
 page_chosen o s Choice.step = s.phase ≡ Stepping
 page_chosen o s Choice.back = ⊥
 
 -- The order was refused, or all its steps are made. Or its answer was not told: what `serve` promises leaves it open.
 abbrev pub Closed : Phase → Type 0
-Closed Ordering = ⊥
-Closed Asked = Unit {0}
+Closed Ordering = Unit {0}
 Closed Writing = ⊥
 Closed Stepping = ⊥
 Closed Over = Unit {0}

@@ -7,6 +7,6 @@
 #![tactic(auto)]
 
 mod page;
-pub mod refused_line;
+mod refusal;
 pub mod scripts;
 mod writer;

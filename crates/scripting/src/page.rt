@@ -12,10 +12,8 @@ use script::lines::first_line;
 // How far a script has come.
 #[derive(Clone, Copy)]
 pub(crate) enum Phase {
-    // The order is yet to be made.
+    // The order is yet to be made, or its answer to be told.
     Ordering,
-    // It is handed out, and its answer is yet to be told.
-    Asked,
     // The lines of the steps made are written.
     Writing,
     // So is that of the step that is being made.
@@ -27,6 +25,7 @@ pub(crate) enum Phase {
 }
 
 // The script of an order for these sides, as far as it is written.
+// Kept as it is: the floor writes a line into a lent buffer from a place on, so how far the text is written stands beside it.
 #[derive(Drop)]
 pub(crate) struct Page {
     pub(crate) sides: Sides,

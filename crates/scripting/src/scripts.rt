@@ -5,27 +5,32 @@ ghost use Rattle.orderfile.specs.Records.{GoodOrder};
 ghost use Rattle.orderfile.specs.Orders.{shown as order-shown};
 ghost use Rattle.scripting.specs.Scripts.{ScriptFor, ScriptOf};
 ghost use Rattle.scripting.specs.Theorems.{ScriptIsFixed};
+ghost use Rattle.scripting.specs.Refusals.{answer_text};
 ghost use Rattle.scripting.specs.Texts.{script_text};
 ghost use Rattle.scripting.specs.Writing.{page_account};
 
 use crate::page::{Page, Phase};
-use crate::refused_line::RefusedLine;
+use crate::refusal::Refusal;
 use crate::writer::{ScriptWriter, Task};
+use arrayvec::ArrayString;
 use chain::fault::FloorFault;
 use floor::record::Floor;
 use motion::longest_plan;
 use orderfile::order::Order;
 use orderfile::read::read;
 use roster::Roster;
+use script::lines::{LONGEST, make_refused_line};
 use serve::serve;
 use std::alloc::Global;
 use std::marker::Brand;
 
-// A script: the first line and the lines of the steps, or the line of a refusal.
+// A script: the first line and the lines of the steps, or the line of a refusal. That stands in fixed room, so that want of
+// memory can be told without memory.
+// Kept as it is: a Result would be no plainer, since a refusal is a script too and is written like any other.
 #[derive(Drop)]
 pub enum Script {
     Steps(Vec<u8>),
-    Refused(RefusedLine),
+    Refused(ArrayString<LONGEST>),
 }
 
 impl Script {
@@ -34,54 +39,9 @@ impl Script {
         ensures script { ScriptOf bytes.now (script_text result) }
         ensures fixed { ScriptIsFixed }
     {
-        match read(heap, bytes) {
-            Ok(order) => Script::of_order::<Brand>(heap, order),
-            Err(fault) => Script::Refused(RefusedLine::new(fault.number())),
-        }
-    }
-
-    fn of_order<K: Task>(heap: Global, order: Order) -> Script
-        requires good { GoodOrder K.order }
-        requires order { order-shown order ≡ K.order }
-        ensures { ScriptFor K.order (script_text result) }
-    {
-        let sides = order.sides;
-        let Ok(writer) = ScriptWriter::<K>::new(heap, order) else {
-            return Script::Refused(RefusedLine::new(FloorFault::NoMemory.number()));
-        };
-        let deck = match Roster::upright(heap, sides.height, sides.width) {
-            Ok(deck) => deck,
-            Err(fault) => return Script::Refused(RefusedLine::new(fault.number())),
-        };
-        let floor = match Floor::open(heap, &deck, sides.height, sides.width) {
-            Ok(floor) => floor,
-            Err(fault) => return Script::Refused(RefusedLine::new(fault.number())),
-        };
-        Script::played::<K>(writer, floor, deck)
-    }
-
-    // Plays the writer's calls to the end.
-    fn played<K: Task>(mut writer: ScriptWriter<K>, mut floor: Floor, mut deck: Roster) -> Script
-        requires { page_account K.order writer.page (floor-shown floor) (roster_view deck) [] }
-        ensures { ScriptFor K.order (script_text result) }
-    {
-        // the order, a step for each move of the plan, and the end
-        let budget = longest_plan(writer.page.sides) + 2;
-        let _ = serve(&mut floor, &mut deck, &mut writer, budget);
-        let Page {
-            phase,
-            mut text,
-            used,
-            ..
-        } = writer.page;
-        match phase {
-            Phase::Over => {
-                text.truncate(used);
-                Script::Steps(text)
-            }
-            Phase::Refused(fault) => Script::Refused(RefusedLine::new(fault.number())),
-            // The order's answer was not told. It always is, but what serve promises leaves that open.
-            _ => Script::Refused(RefusedLine::new(FloorFault::NoMemory.number())),
+        match steps_of_record(heap, bytes) {
+            Ok(text) => Script::Steps(text),
+            Err(refusal) => Script::Refused(make_refused_line(refusal.number())),
         }
     }
 
@@ -90,7 +50,57 @@ impl Script {
     {
         match self {
             Script::Steps(text) => text.as_slice(),
-            Script::Refused(line) => line.text(),
+            Script::Refused(line) => line.as_str().as_bytes(),
+        }
+    }
+}
+
+fn steps_of_record(heap: Global, bytes: &[u8]) -> Result<Vec<u8>, Refusal>
+    ensures { ScriptOf bytes.now (answer_text result) }
+{
+    let order = read(heap, bytes)?;
+    steps_of_order::<Brand>(heap, order)
+}
+
+fn steps_of_order<K: Task>(heap: Global, order: Order) -> Result<Vec<u8>, Refusal>
+    requires good { GoodOrder K.order }
+    requires order { order-shown order ≡ K.order }
+    ensures { ScriptFor K.order (answer_text result) }
+{
+    let sides = order.sides;
+    let writer = ScriptWriter::<K>::new(heap, order)?;
+    let deck = Roster::upright(heap, sides.height, sides.width)?;
+    let floor = Floor::open(heap, &deck, sides.height, sides.width)?;
+    played::<K>(writer, floor, deck)
+}
+
+// Plays the writer's calls to the end.
+fn played<K: Task>(
+    mut writer: ScriptWriter<K>,
+    mut floor: Floor,
+    mut deck: Roster,
+) -> Result<Vec<u8>, Refusal>
+    requires { page_account K.order writer.page (floor-shown floor) (roster_view deck) [] }
+    ensures { ScriptFor K.order (answer_text result) }
+{
+    // the order, a step for each move of the plan, and the end
+    let budget = longest_plan(writer.page.sides) + 2;
+    let _ = serve(&mut floor, &mut deck, &mut writer, budget);
+    let Page {
+        phase,
+        mut text,
+        used,
+        ..
+    } = writer.page;
+    match phase {
+        Phase::Over => {
+            text.truncate(used);
+            Ok(text)
+        }
+        Phase::Refused(fault) => Err(Refusal::Floor(fault)),
+        // The order's answer was not told. It always is, but what serve promises leaves that open.
+        Phase::Ordering | Phase::Writing | Phase::Stepping => {
+            Err(Refusal::Floor(FloorFault::NoMemory))
         }
     }
 }

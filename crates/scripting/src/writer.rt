@@ -13,12 +13,10 @@ use motion::longest_plan;
 use orderfile::order::Order;
 use roster::Roster;
 use rules::any::AnyRule;
+use script::lines::LONGEST;
 use serve::{Call, Source};
 use std::alloc::{AllocError, Global};
 use std::marker::{Brand, PhantomData};
-
-// Room for a first line.
-const FIRST_LINE: usize = 80;
 
 // The order whose script is written. Each call picks it.
 pub(crate) trait Task {
@@ -57,7 +55,7 @@ impl<K: Task> ScriptWriter<K> {
     {
         let Order { sides, rule } = order;
         let marks = vec![in heap; 0u8; sides.slots()]?;
-        let room = longest_plan(sides) * (sides.slots() + 1) + FIRST_LINE;
+        let room = longest_plan(sides) * (sides.slots() + 1) + LONGEST;
         let text = vec![in heap; 0u8; room]?;
         Ok(ScriptWriter {
             pending: Some(Pending { rule, marks }),
@@ -81,14 +79,11 @@ impl<K: Task> Source<Roster> for ScriptWriter<K> {
 
     fn next(&mut self, floor: &Floor, _deck: &mut Roster) -> Call {
         match self.page.phase {
-            Phase::Ordering => {
-                let pending = self.pending.take();
-                self.page.phase = Phase::Asked;
-                match pending {
-                    Some(Pending { rule, marks }) => Call::Order(rule, marks),
-                    None => Call::Stop,
-                }
-            }
+            Phase::Ordering => match self.pending.take() {
+                Some(Pending { rule, marks }) => Call::Order(rule, marks),
+                // its answer was not told
+                None => Call::Stop,
+            },
             Phase::Writing => match write_step(floor, &mut self.page.text, self.page.used) {
                 Ok(count) => {
                     self.page.used += count;
@@ -102,7 +97,7 @@ impl<K: Task> Source<Roster> for ScriptWriter<K> {
             },
             // its line is written
             Phase::Stepping => Call::Step,
-            Phase::Asked | Phase::Over | Phase::Refused(_) => Call::Stop,
+            Phase::Over | Phase::Refused(_) => Call::Stop,
         }
     }
 

@@ -4,6 +4,7 @@ ghost use Rattle.rules.specs.Rules.{IsClass};
 ghost use Rattle.rules.specs.KindRule.{KindMade, has_bit, kind_meaning, kind_bounded, kind_class};
 
 use crate::Rule;
+use crate::any::AnyRule;
 use crate::fault::RuleFault;
 use crate::kind::{KINDS, KindRule};
 
@@ -11,12 +12,7 @@ use crate::kind::{KINDS, KindRule};
 pub fn all_kinds_exist(kinds: &[u8]) -> bool
     ensures { MatchBool result (GoodKinds kinds.now) (GoodKinds kinds.now → ⊥) }
 {
-    for kind in kinds {
-        if *kind >= KINDS {
-            return false;
-        }
-    }
-    true
+    kinds.iter().all(|kind| *kind < KINDS)
 }
 
 // Whether the mask's bit of a kind is one.
@@ -53,6 +49,16 @@ impl KindRule {
     }
 }
 
+impl From<KindRule> for AnyRule {
+    ghost use Rattle.rules.specs.declared.any.AnyRule.TheVariants.{Kind};
+
+    ghost from_gives = { λ rule either. either ≡ Kind rule };
+
+    fn from(rule: KindRule) -> AnyRule {
+        AnyRule::Kind(rule)
+    }
+}
+
 impl Rule for KindRule {
     ghost meaning = { kind_meaning };
 
@@ -69,19 +75,17 @@ impl Rule for KindRule {
     }
 
     fn admits(&self, slot: usize, carrier: usize) -> bool {
-        if slot >= self.masks.len() || carrier >= self.kinds.len() {
-            return false;
+        match (self.masks.get(slot), self.kinds.get(carrier)) {
+            (Some(mask), Some(kind)) => has_bit(*mask, *kind),
+            _ => false,
         }
-        has_bit(self.masks[slot], self.kinds[carrier])
     }
 
     fn class(&self, carrier: usize) -> Option<usize>
         ensures known { MatchOption result (Unit {0}) (λ c. IsClass (kind_meaning self.now) (kind_class self.now) carrier c) }
         ensures told { result ≡ Some (kind_class self.now carrier) }
     {
-        if carrier < self.kinds.len() {
-            return Some(usize::from(self.kinds[carrier]));
-        }
-        Some(usize::from(KINDS))
+        let kind = self.kinds.get(carrier).copied().unwrap_or(KINDS);
+        Some(usize::from(kind))
     }
 }

@@ -3,6 +3,7 @@ ghost use Rattle.rules.specs.Entries.{GoodWanted};
 ghost use Rattle.rules.specs.NumberRule.{NumberMade, number_meaning, number_bounded};
 
 use crate::Rule;
+use crate::any::AnyRule;
 use crate::fault::RuleFault;
 use crate::number::NumberRule;
 
@@ -10,12 +11,9 @@ use crate::number::NumberRule;
 pub fn all_wanted_exist(wanted: &[u16]) -> bool
     ensures { MatchBool result (GoodWanted wanted.now) (GoodWanted wanted.now → ⊥) }
 {
-    for carrier in wanted {
-        if *carrier as usize >= wanted.len() {
-            return false;
-        }
-    }
-    true
+    wanted
+        .iter()
+        .all(|carrier| usize::from(*carrier) < wanted.len())
 }
 
 impl NumberRule {
@@ -37,6 +35,16 @@ impl NumberRule {
     }
 }
 
+impl From<NumberRule> for AnyRule {
+    ghost use Rattle.rules.specs.declared.any.AnyRule.TheVariants.{Number};
+
+    ghost from_gives = { λ rule either. either ≡ Number rule };
+
+    fn from(rule: NumberRule) -> AnyRule {
+        AnyRule::Number(rule)
+    }
+}
+
 impl Rule for NumberRule {
     ghost meaning = { number_meaning };
 
@@ -51,6 +59,8 @@ impl Rule for NumberRule {
     }
 
     fn admits(&self, slot: usize, carrier: usize) -> bool {
-        slot < self.wanted.len() && self.wanted[slot] as usize == carrier
+        self.wanted
+            .get(slot)
+            .is_some_and(|wanted| usize::from(*wanted) == carrier)
     }
 }

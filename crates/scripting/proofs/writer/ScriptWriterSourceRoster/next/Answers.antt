@@ -17,4 +17,4 @@ returns-in-Err-clause-kept g c es account =
 pub returns-in-Some-clause-chooses : goal.returns-in-Some-clause-chooses
 returns-in-Some-clause-chooses g c =
     let asks = c.args.self.now.asks c.in-Some.field-0 (sym c.in-Some.ensures.value) in
-    (refl, asks.0, asks.1)
+    (c.in-Ordering.is, asks.0, asks.1)

@@ -1,17 +1,10 @@
-use Rattle.std.proofs.Common.{ℕ, length, Result, refl, subst}
+use Rattle.std.proofs.Common.{ℕ, length, Result, subst}
 use Rattle.roster.specs.Rosters.{roster_view}
 use Rattle.chain.specs.declared.fault.FloorFault.{FloorFault}
 use Rattle.chain.specs.Calls.{Stepped}
 use Rattle.floor.specs.Shown.{shown}
-use Rattle.scripting.proofs.Keeping.{step_made, never_refused}
+use Rattle.scripting.proofs.Keeping.{never_refused}
 use Rattle.scripting.proofs.writer.ScriptWriterSourceRoster.stepped.Goals as goal
-
-pub returns-in-Ok : goal.returns-in-Ok
-returns-in-Ok g c f v es account chosen stepped =
-    let h = shown c.args._floor.now in
-    let w = roster_view c.args._deck.now in
-    step_made c.args.self.now.page _ g.K.Task.order f h v w (length es) _ chosen refl refl refl refl refl refl account
-    (subst (λ (a : Result ℕ FloorFault). Stepped f v a h w) c.in-Ok.is stepped)
 
 pub returns-in-Err : goal.returns-in-Err
 returns-in-Err g c f v es account chosen stepped =
