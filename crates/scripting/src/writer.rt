@@ -77,27 +77,27 @@ impl<K: Task> Source<Roster> for ScriptWriter<K> {
 
     ghost over = { λ w. Closed w.page.phase };
 
-    fn next(&mut self, floor: &Floor, _deck: &mut Roster) -> Call {
+    fn next(&mut self, floor: &Floor, _deck: &mut Roster) -> Option<Call> {
         match self.page.phase {
-            Phase::Ordering => match self.pending.take() {
-                Some(Pending { rule, marks }) => Call::Order(rule, marks),
-                // its answer was not told
-                None => Call::Stop,
-            },
+            Phase::Ordering => {
+                // none where its answer was not told
+                let Pending { rule, marks } = self.pending.take()?;
+                Some(Call::Order(rule, marks))
+            }
             Phase::Writing => match write_step(floor, &mut self.page.text, self.page.used) {
                 Ok(count) => {
                     self.page.used += count;
                     self.page.phase = Phase::Stepping;
-                    Call::Step
+                    Some(Call::Step)
                 }
                 Err(_) => {
                     self.page.phase = Phase::Over;
-                    Call::Stop
+                    None
                 }
             },
             // its line is written
-            Phase::Stepping => Call::Step,
-            Phase::Over | Phase::Refused(_) => Call::Stop,
+            Phase::Stepping => Some(Call::Step),
+            Phase::Over | Phase::Refused(_) => None,
         }
     }
 

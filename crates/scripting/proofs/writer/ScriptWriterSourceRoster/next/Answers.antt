@@ -14,7 +14,7 @@ returns-in-Err-clause-kept g c es account =
     all_written c.args.self.now.page _ g.K.Task.order (shown c.args.floor.now) (roster_view c.args._deck.now) (length es) _
     c.in-Writing.is refl refl refl refl c.in-Err.ensures account
 
-pub returns-in-Some-clause-chooses : goal.returns-in-Some-clause-chooses
-returns-in-Some-clause-chooses g c =
-    let asks = c.args.self.now.asks c.in-Some.field-0 (sym c.in-Some.ensures.value) in
+pub returns-in_ok-rule-in-Ordering-clause-chooses : goal.returns-in_ok-rule-in-Ordering-clause-chooses
+returns-in_ok-rule-in-Ordering-clause-chooses g c =
+    let asks = c.args.self.now.asks c.in_ok-rule-in-Ordering.field-0 (sym c.in_ok-rule-in-Ordering.ensures.value) in
     (c.in-Ordering.is, asks.0, asks.1)
