@@ -1,5 +1,5 @@
 -- Carriers are steered one after another, and a go depends only on what the deck shows of its carriers.
-use Rattle.std.proofs.Common.{◌≡◌, ℕ, ◌+◌, ◌<◌, ◌≤◌, List, get_or, Ok, Err, Result, sym, refl, ap, ◌∙◌, subst, ⊎_elim, arith}
+use Rattle.std.proofs.Common.{◌≡◌, ℕ, ◌+◌, ◌<◌, ◌≤◌, List, get_or, Ok, Err, Result, sym, ap, ◌∙◌, subst, ⊎_elim, arith}
 use Rattle.std.proofs.lemmas.Bool.{cases_eq}
 use Rattle.grid.specs.declared.heading.Heading.{Heading}
 use Rattle.grid.specs.declared.heading.Heading.TheVariants.{Stay}
@@ -9,7 +9,6 @@ use Rattle.grid.specs.Squares.{Remains, led}
 use Rattle.deck.specs.declared.fault.DeckFault.{DeckFault}
 use Rattle.deck.specs.declared.fault.DeckFault.TheVariants.{NotReady, OffFloor, SharedSquare, Exchange, NoCarrier, NoHeading}
 use Rattle.deck.specs.Decks.{DeckView, end, RemainsAt, AllRemain, SomeLeaves, EndsDiffer, SomeMeet, NoneExchange, SomeExchange, SameFloor, Unmoved, Unchanged, Steered, GoRefused, Went}
-use Rattle.deck.specs.Driven.{headed}
 use Rattle.deck.proofs.Numbering.{same_heading, few_numbers}
 
 floor_then : (u v w : DeckView) → SameFloor u v → SameFloor v w → SameFloor u w
@@ -21,14 +20,6 @@ pub record Steering (v : DeckView) (hs : List Heading) (n : ℕ) (w : DeckView) 
   pub unmoved : Unmoved v w
   pub ready : w.ready ≡ v.ready
   pub steered : (k : ℕ) → k < n → w.heading k ≡ get_or hs k Stay
-
-pub steering_none : (v : DeckView) (hs : List Heading) → Steering v hs 0 v
-steering_none v hs = record {
-  floor = record { rows = refl; columns = refl; carriers = refl };
-  unmoved = λ k h. refl;
-  ready = refl;
-  steered = λ k h. absurd (omega arith);
-}
 
 module _ {U : Type 0} (u v w : DeckView) (hs : List Heading) (n : ℕ) (l : n < u.carriers) (i : Steering u hs n v) where
   pub steering_more : (h : Heading) (r : Result U DeckFault) → h ≡ get_or hs n Stay → Steered v n (heading_number h) r w → Steering u hs (n + 1) w
@@ -50,9 +41,6 @@ module _ {U : Type 0} (u v w : DeckView) (hs : List Heading) (n : ℕ) (l : n < 
   steering_more h (Err OffFloor) e (y, t) = absurd y
   steering_more h (Err SharedSquare) e (y, t) = absurd y
   steering_more h (Err Exchange) e (y, t) = absurd y
-
-pub steering_all : (v w : DeckView) (hs : List Heading) → Steering v hs v.carriers w → Unchanged (headed v hs) w
-steering_all v w hs i = record { floor = record { rows = i.floor.rows; columns = i.floor.columns; carriers = i.floor.carriers }; unmoved = i.unmoved; headings = i.steered; ready = i.ready }
 
 -- What is unchanged goes alike.
 module _ (u v : DeckView) (s : Unchanged u v) where

@@ -12,10 +12,11 @@ use grid::heading::Heading;
 fn steer_all<D: Deck>(deck: &mut D, headings: &[Heading])
     ensures { Unchanged (headed (D.Deck.view deck.old) headings.now) (D.Deck.view deck.new) }
 {
-    for k in 0..(*deck).carriers() {
-        let heading = heading_of(headings, k);
+    // Kept as it is: a deck is steered by a carrier's number, and there may be more carriers than headings.
+    for carrier in 0..(*deck).carriers() {
+        let heading = heading_of(headings, carrier);
         // There is such a carrier and such a heading.
-        let _ = deck.steer(k, heading.number());
+        let _ = deck.steer(carrier, heading.number());
     }
 }
 

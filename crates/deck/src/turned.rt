@@ -73,8 +73,6 @@ impl<D: Deck> Deck for Turned<D> {
     }
 }
 
-pub fn turning_twice_changes_nothing() -> u8
+pub fn turning_twice_changes_nothing()
     ensures { TurningTwiceChangesNothing }
-{
-    0
-}
+{}

@@ -23,10 +23,10 @@ fn mark<D: Deck>(deck: &D, square: Square) -> char {
 
 fn show<D: Deck>(rt: &HostRuntime, deck: &D) -> anyhow::Result<()> {
     for row in 0..deck.rows() {
-        for column in 0..deck.columns() {
-            rt.print(mark(deck, Square { row, column }))?;
-        }
-        rt.println("")?;
+        let line: String = (0..deck.columns())
+            .map(|column| mark(deck, Square { row, column }))
+            .collect(rt.alloc())?;
+        println!(rt; "{line}")?;
     }
     Ok(())
 }

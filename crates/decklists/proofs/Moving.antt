@@ -72,10 +72,6 @@ halted_sound v w m s = record {
 pub stand_where_they_came : (v w : DeckView) (table : List (Option ℕ)) → Moved v w → EndsNoted v table → PlacesNoted w table
 stand_where_they_came v w table m i = subst (λ (columns : ℕ). Noted columns w.carriers w.square table) (sym m.floor.columns) (noted_there v.columns w.carriers v.carriers (end v) w.square table m.floor.carriers m.moves i)
 
--- where nobody moved, the table of who stands where holds still
-pub stand_where_they_stood : (v w : DeckView) (table : List (Option ℕ)) → Halted v w → PlacesNoted v table → PlacesNoted w table
-stand_where_they_stood v w table m i = subst (λ (columns : ℕ). Noted columns w.carriers w.square table) (sym m.floor.columns) (noted_there v.columns w.carriers v.carriers v.square w.square table m.floor.carriers m.unmoved i)
-
 -- nobody is noted yet where carrier n stands
 pub still_free : (v : DeckView) (s : Sound v) (table : List (Option ℕ)) (n p : ℕ) → n < v.carriers → Noted v.columns n v.square table → p ≡ square_number v.columns (v.square n) → (k : ℕ) → get_or table p None ≡ Some k → ⊥
 still_free v s table n p h i q k r =
@@ -89,9 +85,6 @@ halted_in e {a = a} {b' = b'} p q h = subst (λ (cs : List Carrier). Halted (lis
 
 pub moved_in : (e : Extent) {a a' b b' : List Carrier} → a ≡ a' → b' ≡ b → Moved (listed e a true) (listed e b true) → Moved (listed e a' true) (listed e b' true)
 moved_in e {a = a} {b' = b'} p q h = subst (λ (cs : List Carrier). Moved (listed e cs true) (listed e b' true)) p (subst (λ (cs : List Carrier). Moved (listed e a true) (listed e cs true)) (sym q) h)
-
-pub halted_from : {u v w : DeckView} → u ≡ v → Halted u w → Halted v w
-halted_from {w = w} p h = subst (λ (x : DeckView). Halted x w) p h
 
 pub moved_from : {u v w : DeckView} → u ≡ v → Moved u w → Moved v w
 moved_from {w = w} p h = subst (λ (x : DeckView). Moved x w) p h

@@ -21,40 +21,32 @@ pub none_noted : (o : Option ℕ) → is_some o ≡ false → (k : ℕ) → o �
 none_noted None e k q = nobody k q
 none_noted (Some j) e k q = let z : ◌≡◌ {A = ℕ} 0 1 = cc in omega arith
 
-module _ (columns : ℕ) (at : ℕ → Square) (table : List (Option ℕ)) where
-  pub noted_none : ((p : ℕ) → get_or table p None ≡ None) → Noted columns 0 at table
-  noted_none e = record {
-    each = λ k h. absurd (omega arith);
-    nobody_else = λ p k s. absurd (nobody k (sym (e p) ∙ s));
-    nowhere_else = λ p k s. absurd (nobody k (sym (e p) ∙ s));
-  }
+module _ (columns : ℕ) (at : ℕ → Square) (table : List (Option ℕ)) (n p : ℕ) (here : p ≡ square_number columns (at n)) (within : p < length table) (free : (k : ℕ) → get_or table p None ≡ Some k → ⊥) (i : Noted columns n at table) where
+  set_there : get_or (set table p (Some n)) p None ≡ Some n
+  set_there = get_or-set_same table p (Some n) None within
 
-  module _ (n p : ℕ) (here : p ≡ square_number columns (at n)) (within : p < length table) (free : (k : ℕ) → get_or table p None ≡ Some k → ⊥) (i : Noted columns n at table) where
-    set_there : get_or (set table p (Some n)) p None ≡ Some n
-    set_there = get_or-set_same table p (Some n) None within
+  each_more : (k : ℕ) → k < n + 1 → get_or (set table p (Some n)) (square_number columns (at k)) None ≡ Some k
+  each_more k h = ⊎_elim
+      (λ (e : k ≡ n). ap (λ q. get_or (set table p (Some n)) q None) (ap (λ m. square_number columns (at m)) e ∙ sym here) ∙ set_there ∙ ap Some (sym e))
+      (λ (o : k ≡ n → ⊥).
+      let l : k < n = omega arith in
+      let old = i.each k l in
+      get_or-set_other table p (square_number columns (at k)) (Some n) None (λ e. free k (ap (λ q. get_or table q None) (sym e) ∙ old)) ∙ old)
+      (cases_eq k n)
 
-    each_more : (k : ℕ) → k < n + 1 → get_or (set table p (Some n)) (square_number columns (at k)) None ≡ Some k
-    each_more k h = ⊎_elim
-        (λ (e : k ≡ n). ap (λ q. get_or (set table p (Some n)) q None) (ap (λ m. square_number columns (at m)) e ∙ sym here) ∙ set_there ∙ ap Some (sym e))
-        (λ (o : k ≡ n → ⊥).
-        let l : k < n = omega arith in
-        let old = i.each k l in
-        get_or-set_other table p (square_number columns (at k)) (Some n) None (λ e. free k (ap (λ q. get_or table q None) (sym e) ∙ old)) ∙ old)
-        (cases_eq k n)
+  else_more : (q k : ℕ) → get_or (set table p (Some n)) q None ≡ Some k → (k < n + 1) × (square_number columns (at k) ≡ q)
+  else_more q k s = ⊎_elim
+      (λ (e : q ≡ p).
+      let k-is : n ≡ k = some_is n k (sym set_there ∙ ap (λ m. get_or (set table p (Some n)) m None) (sym e) ∙ s) in
+      (omega arith, ap (λ m. square_number columns (at m)) (sym k-is) ∙ sym here ∙ sym e))
+      (λ (o : q ≡ p → ⊥).
+      let old = sym (get_or-set_other table p q (Some n) None o) ∙ s in
+      let l : k < n = i.nobody_else q k old in
+      (omega arith, i.nowhere_else q k old))
+      (cases_eq q p)
 
-    else_more : (q k : ℕ) → get_or (set table p (Some n)) q None ≡ Some k → (k < n + 1) × (square_number columns (at k) ≡ q)
-    else_more q k s = ⊎_elim
-        (λ (e : q ≡ p).
-        let k-is : n ≡ k = some_is n k (sym set_there ∙ ap (λ m. get_or (set table p (Some n)) m None) (sym e) ∙ s) in
-        (omega arith, ap (λ m. square_number columns (at m)) (sym k-is) ∙ sym here ∙ sym e))
-        (λ (o : q ≡ p → ⊥).
-        let old = sym (get_or-set_other table p q (Some n) None o) ∙ s in
-        let l : k < n = i.nobody_else q k old in
-        (omega arith, i.nowhere_else q k old))
-        (cases_eq q p)
-
-    pub noted_more : Noted columns (n + 1) at (set table p (Some n))
-    noted_more = record { each = each_more; nobody_else = λ q k s. (else_more q k s).0; nowhere_else = λ q k s. (else_more q k s).1 }
+  pub noted_more : Noted columns (n + 1) at (set table p (Some n))
+  noted_more = record { each = each_more; nobody_else = λ q k s. (else_more q k s).0; nowhere_else = λ q k s. (else_more q k s).1 }
 
 -- the same table notes carriers that stand where they came to
 pub noted_there : (columns m n : ℕ) (at at' : ℕ → Square) (table : List (Option ℕ)) → m ≡ n → ((k : ℕ) → k < n → at' k ≡ at k) → Noted columns n at table → Noted columns m at' table

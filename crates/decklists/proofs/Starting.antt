@@ -1,8 +1,7 @@
 -- Where carriers start, they stand on the floor and apart.
-use Rattle.std.proofs.Common.{◌≡◌, ℕ, ◌+◌, ◌*◌, ◌/◌, ◌%◌, ◌<◌, true, List, sym, refl, ap, ◌∙◌, subst, arith}
+use Rattle.std.proofs.Common.{◌≡◌, ℕ, ◌+◌, ◌*◌, ◌/◌, ◌%◌, ◌<◌, true, List, sym, ap, ◌∙◌, subst, arith}
 use Rattle.std.proofs.lemmas.Nat.{div_below, mod_below, div-add-mod'}
 use Rattle.grid.specs.declared.square.Square.{Square}
-use Rattle.grid.specs.Headings.{turned_heading}
 use Rattle.grid.specs.Sides.{row_count, column_count, slot_count}
 use Rattle.grid.specs.Slots.{slot_square, numbered_slot}
 use Rattle.grid.specs.Squares.{OnFloor, turned_square}
@@ -11,8 +10,7 @@ use Rattle.decklists.specs.declared.carrier.Carrier.{Carrier}
 use Rattle.decklists.specs.declared.laying.Laying.{Laying}
 use Rattle.decklists.specs.declared.laying.Laying.TheVariants.{Upright, Lying}
 use Rattle.decklists.specs.Lists.{listed, placed}
-use Rattle.decklists.specs.Laid.{laid_square, laid_extent, read_view}
-use Rattle.decklists.specs.New.{New}
+use Rattle.decklists.specs.Laid.{laid_square, laid_extent}
 use Rattle.decklists.specs.Started.{Started}
 
 slot_inside : (h w k : ℕ) → 0 < w → k < slot_count h w → OnFloor (row_count h) (column_count w) (slot_square (numbered_slot w k))
@@ -47,22 +45,3 @@ module _ (way : Laying) (h w : ℕ) (cs : List Carrier) (s : Started way h w cs)
         let q : j ≡ k = slot_known w j k (laid_known way (slot_square (numbered_slot w j)) (slot_square (numbered_slot w k)) (sym (at j o) ∙ e ∙ at k i)) in
         omega arith);
   }
-
--- read the right way round, the deck is new
-pub starts_new : (way : Laying) (h w : ℕ) (cs : List Carrier) → Started way h w cs → New h w (read_view way (listed (laid_extent way h w) cs true))
-starts_new Upright h w cs s = record {
-  rows = refl;
-  columns = refl;
-  carriers = s.many;
-  on_slots = λ k l. ap (λ (c : Carrier). c.square) (s.on_slots k l);
-  resting = λ k l. ap (λ (c : Carrier). c.heading) (s.on_slots k (omega (arith, s.many)));
-  ready = refl;
-}
-starts_new Lying h w cs s = record {
-  rows = refl;
-  columns = refl;
-  carriers = s.many;
-  on_slots = λ k l. ap (λ (c : Carrier). turned_square c.square) (s.on_slots k l);
-  resting = λ k l. ap (λ (c : Carrier). turned_heading c.heading) (s.on_slots k (omega (arith, s.many)));
-  ready = refl;
-}
