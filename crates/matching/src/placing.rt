@@ -6,6 +6,7 @@ ghost use Rattle.matching.specs.WorkLists.{members_of, parents_of, places, Room}
 ghost use Rattle.matching.specs.Tables.{Ready, Kept};
 ghost use Rattle.matching.specs.Answers.{Outcome};
 
+use crate::notes::Notes;
 use crate::quest::Quest;
 use crate::reaching::{line_up, reach};
 use crate::relation::Relation;
@@ -69,6 +70,7 @@ pub fn place<R: Relation>(
     quest: &Quest<R>,
     mate: &mut [usize],
     tables: &mut Tables,
+    notes: &mut Notes,
 ) -> Result<Option<usize>, Stuck>
     requires size { length mate.old ≡ R.Relation.size quest.now.rel.now }
     requires ready { Ready (length mate.old) tables.old }
@@ -89,7 +91,7 @@ pub fn place<R: Relation>(
         marks: tables.marks,
         count: mate.len(),
     };
-    let count = reach(quest, goal, movable, mate, guard.marks, tables.work);
+    let count = reach(quest, goal, movable, mate, guard.marks, notes, tables.work);
     let sealed = (guard.marks[mate[goal]] == 0).then_some(count);
     let Some(start) = choose(quest, mate, tables.work, count) else {
         return Err(Stuck { reached: count });

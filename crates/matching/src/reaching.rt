@@ -100,6 +100,7 @@ pub fn reach<R: Relation>(
     movable: usize,
     mate: &[usize],
     marks: &mut [u8],
+    notes: &mut Notes,
     work: &mut WorkList,
 ) -> usize
     requires size { (length mate.now ≡ R.Relation.size quest.now.rel.now) × (length mate.now ≤ length marks.old) }
@@ -114,7 +115,7 @@ pub fn reach<R: Relation>(
     ensures rest { Beyond (length mate.now) marks.old marks.new }
     ensures room { SameRoom work.old work.new }
 {
-    let mut notes = Notes::none();
+    notes.clear();
     marks[mate[quest.left]] = 1;
     let mut asked = 0;
     let mut head = 0;

@@ -7,11 +7,15 @@ ghost use Rattle.matching.specs.WorkLists.{member_of, members_of};
 ghost use Rattle.matching.specs.Tables.{Ready, Kept};
 ghost use Rattle.matching.specs.Answers.{Answer, Exactly, Settled};
 
+use crate::notes::Notes;
 use crate::placing::{Stuck, place};
 use crate::quest::Quest;
 use crate::relation::Relation;
 use crate::tables::Tables;
 use crate::work_list::Entry;
+
+// The search tells at most this many classes of right members apart; all others are visited each time.
+const NOTES: usize = 8192;
 
 // No matching is perfect: so many members at the front of the work list block every one.
 #[derive(Clone, Copy, Debug, PartialEq, Eq)]
@@ -61,7 +65,12 @@ fn take_free<R: Relation>(rel: &R, next: usize, mate: &mut [usize]) -> bool
 }
 
 // Some perfect matching, or some left members that block.
-fn settle<R: Relation>(rel: &R, mate: &mut [usize], tables: &mut Tables) -> Result<(), Blockers>
+fn settle<R: Relation>(
+    rel: &R,
+    mate: &mut [usize],
+    tables: &mut Tables,
+    notes: &mut Notes,
+) -> Result<(), Blockers>
     requires size { length mate.old ≡ R.Relation.size rel.now }
     requires ready { Ready (length mate.old) tables.old }
     requires united { Clear tables.old.block.now (length mate.old) }
@@ -81,7 +90,7 @@ fn settle<R: Relation>(rel: &R, mate: &mut [usize], tables: &mut Tables) -> Resu
             fixed: 0,
             left: next,
         };
-        if let Err(Stuck { reached }) = place(&quest, mate, tables) {
+        if let Err(Stuck { reached }) = place(&quest, mate, tables, notes) {
             let count = tables.work.gather(reached, n);
             return Err(Blockers { count });
         }
@@ -106,7 +115,7 @@ fn has_least<R: Relation>(rel: &R, left: usize, mate: &[usize], block: &[usize])
 }
 
 // Of a perfect matching the first in dictionary order.
-fn refine<R: Relation>(rel: &R, mate: &mut [usize], tables: &mut Tables)
+fn refine<R: Relation>(rel: &R, mate: &mut [usize], tables: &mut Tables, notes: &mut Notes)
     requires size { length mate.old ≡ R.Relation.size rel.now }
     requires ready { Ready (length mate.old) tables.old }
     requires united { Clear tables.old.block.now (length mate.old) }
@@ -126,7 +135,7 @@ fn refine<R: Relation>(rel: &R, mate: &mut [usize], tables: &mut Tables)
             fixed: left,
             left,
         };
-        let Ok(Some(sealed)) = place(&quest, mate, tables) else {
+        let Ok(Some(sealed)) = place(&quest, mate, tables, notes) else {
             continue;
         };
         split(tables.block, tables.work.first(sealed), left + 1);
@@ -147,7 +156,9 @@ pub fn first_matching<R: Relation>(
     ensures kept { Kept tables.old tables.new }
 {
     tables.block.fill(0);
-    settle(rel, mate, tables)?;
-    refine(rel, mate, tables);
+    let mut seen = [0; NOTES];
+    let mut notes = Notes::over(&mut seen[..mate.len().min(NOTES)]);
+    settle(rel, mate, tables, &mut notes)?;
+    refine(rel, mate, tables, &mut notes);
     Ok(())
 }

@@ -18,7 +18,7 @@ loop-head-init g c = (
   same_as _ _,
   omega arith,
   refl,
-  λ k h. absurd (let z = c.none-notes.ensures k in omega arith),
+  λ k h. absurd (let z = c.clear.ensures k in omega arith),
   omega arith,
 )
 
@@ -58,8 +58,8 @@ loop-head-preserved g c =
     let members = members_of c.loop-head.work in
     let head = c.loop-head.head in
     let e = c.member.ensures in
-    let added : (fresh : Bool) → Added R n class (mate ! c.member.result) c.loop-head.notes.seen c.is_new.new.self.seen fresh → Added R n class (mate ! (members ! head)) c.loop-head.notes.seen c.is_new.new.self.seen fresh =
-    λ fresh h. subst (λ (x : ℕ). Added R n class (mate ! x) c.loop-head.notes.seen c.is_new.new.self.seen fresh) e h in
+    let added : (fresh : Bool) → Added R n class (mate ! c.member.result) c.loop-head.notes.seen.now c.is_new.new.self.seen.now fresh → Added R n class (mate ! (members ! head)) c.loop-head.notes.seen.now c.is_new.new.self.seen.now fresh =
+    λ fresh h. subst (λ (x : ℕ). Added R n class (mate ! x) c.loop-head.notes.seen.now c.is_new.new.self.seen.now fresh) e h in
     elim c.if-is_new.branch [
       | then-is_new w ↦ simp (w.work-is, w.marks-is, w.tail-is) (
         w.visit-tail.ensures.reached,
