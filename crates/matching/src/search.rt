@@ -1,10 +1,11 @@
 ghost use Rattle.std.specs.Prelude.{◌≡◌, ℕ, ◌+◌, ◌<◌, ◌≤◌, length, map, IsOk, MatchBool};
 ghost use Rattle.matchings.specs.Matchings.{◌!◌, First};
 ghost use Rattle.matchings.specs.Regular.{RegularCounts};
-ghost use Rattle.matchings.specs.Reaching.{Clear, Inj, loose};
+ghost use Rattle.matchings.specs.Reaching.{Clear, loose};
 ghost use Rattle.matchings.specs.Placing.{Held, Split, HasLeast};
 ghost use Rattle.matching.specs.WorkLists.{member_of, members_of};
 ghost use Rattle.matching.specs.Tables.{Ready, Kept};
+ghost use Rattle.matching.specs.Seating.{Seated};
 ghost use Rattle.matching.specs.Answers.{Answer, Exactly, Settled};
 
 use crate::notes::Notes;
@@ -101,8 +102,8 @@ fn settle<R: Relation>(
 // True only if no later member of the block of `left` has a lesser right member that `left` allows. False lets the search proper
 // look.
 fn has_least<R: Relation>(rel: &R, left: usize, mate: &[usize], block: &[usize]) -> bool
-    requires size { (length mate.now ≡ R.Relation.size rel.now) × ((length block.now ≡ length mate.now) × (left < length mate.now)) }
-    requires inj { Inj (length mate.now) (λ k. mate.now ! k) }
+    requires seated { Seated (R.Relation.size rel.now) mate.now }
+    requires left { (length block.now ≡ length mate.now) × (left < length mate.now) }
     ensures { MatchBool result (HasLeast (R.Relation.allowed rel.now) (length mate.now) left block.now mate.now) (Unit {0}) }
 {
     let held = mate[left];
