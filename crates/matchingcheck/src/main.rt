@@ -46,10 +46,10 @@ fn is_perfect(cells: &[u8], n: usize, rights: &[usize]) -> bool
         .chunks(n + 1)
         .zip(rights)
         .all(|(row, right)| row.get(*right) == Some(&b'1'));
-    let apart = rights
+    let apart = rights.iter().enumerate().all(|(l, right)| rights
         .iter()
-        .enumerate()
-        .all(|(l, right)| rights.iter().take(l).all(|other| *other != *right));
+        .take(l)
+        .all(|other| *other != *right));
     allowed && apart
 }
 
@@ -58,12 +58,17 @@ fn brute(cells: &[u8], n: usize) -> Option<[usize; MOST]>
     requires { (0 < n) × (n ≤ 4) }
 {
     let lists = [1usize, 4, 27, 256];
-    (0..lists[n - 1])
-        .map(|number| list(number, n))
-        .find(|rights| is_perfect(cells, n, &rights[..n]))
+    for number in 0..lists[n - 1] {
+        let rights = list(number, n);
+        if is_perfect(cells, n, &rights[..n]) {
+            return Some(rights);
+        }
+    }
+    None
 }
 
 // The search does not answer what brute force finds, or leaves marks behind.
+#[derive(Drop)]
 struct Mismatch;
 
 // Whether one relation has a perfect matching, as the search and brute force both say.
