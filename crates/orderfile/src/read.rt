@@ -71,6 +71,7 @@ fn read_wanted(heap: Global, slots: usize, body: &[u8]) -> Result<AnyRule, Order
     if !all_entries_below(pairs, slots) {
         return Err(OrderFault::BadEntry);
     }
+    // a number record has no kinds
     let (_, wanted) = kept(heap, &[], pairs)?;
     Ok(NumberRule::new(wanted)?.into())
 }
