@@ -198,7 +198,7 @@ fits_opened h w z o sides sized sound new =
       full = sym new.length;
       net = sym new.done;
       sound = sound;
-      current = λ r e. let z : ◌≡◌ {A = ℕ} 0 1 = cc in absurd (omega arith);
+      current = λ r e. cc;
       apart_then = λ c d cd dn e. let size = sized.carriers in sound.apart c d cd (omega arith) e;
     }
 

@@ -82,21 +82,21 @@ module _ (h w : ℕ) (f : FloorView) (v : DeckView) (s : Sheet) (q : ℕ → Squ
 
   not_astray : (r : RuleView) (marks : List ℕ) (e : FloorFault) → OrderRefused f v r marks e → e ≡ Astray → ⊥
   not_astray r marks e (OrderRefused.astray a b d off) is = off x.stands
-  not_astray r marks e (OrderRefused.unfinished a) is = let z : ◌≡◌ {A = ℕ} 0 1 = cc in omega arith
-  not_astray r marks e (OrderRefused.few_marks a b) is = let z : ◌≡◌ {A = ℕ} 0 1 = cc in omega arith
-  not_astray r marks e (OrderRefused.dirty_marks a b d) is = let z : ◌≡◌ {A = ℕ} 0 1 = cc in omega arith
-  not_astray r marks e (OrderRefused.wrong_rule a b d k l) is = let z : ◌≡◌ {A = ℕ} 0 1 = cc in omega arith
-  not_astray r marks e (OrderRefused.unfillable a b d k l m) is = let z : ◌≡◌ {A = ℕ} 0 1 = cc in omega arith
+  not_astray r marks e (OrderRefused.unfinished a) is = cc
+  not_astray r marks e (OrderRefused.few_marks a b) is = cc
+  not_astray r marks e (OrderRefused.dirty_marks a b d) is = cc
+  not_astray r marks e (OrderRefused.wrong_rule a b d k l) is = cc
+  not_astray r marks e (OrderRefused.unfillable a b d k l m) is = cc
 
   step_not_astray : (u : DeckView) (e : FloorFault) → StepRefused f v u e → e ≡ Astray → ⊥
   step_not_astray u e (StepRefused.astray a off b) is = off x.stands
-  step_not_astray u e (StepRefused.no_next_move a b) is = let z : ◌≡◌ {A = ℕ} 0 1 = cc in omega arith
-  step_not_astray u e (StepRefused.go_refused a b d k) is = let z : ◌≡◌ {A = ℕ} 0 1 = cc in omega arith
+  step_not_astray u e (StepRefused.no_next_move a b) is = cc
+  step_not_astray u e (StepRefused.go_refused a b d k) is = cc
 
   back_not_astray : (u : DeckView) (e : FloorFault) → BackRefused f v u e → e ≡ Astray → ⊥
   back_not_astray u e (BackRefused.astray a off b) is = off x.stands
-  back_not_astray u e (BackRefused.no_last_move a b) is = let z : ◌≡◌ {A = ℕ} 0 1 = cc in omega arith
-  back_not_astray u e (BackRefused.go_refused a b d k) is = let z : ◌≡◌ {A = ℕ} 0 1 = cc in omega arith
+  back_not_astray u e (BackRefused.no_last_move a b) is = cc
+  back_not_astray u e (BackRefused.go_refused a b d k) is = cc
 
   -- Moves.
 
@@ -159,8 +159,8 @@ module _ (h w : ℕ) (f : FloorView) (v : DeckView) (s : Sheet) (q : ℕ → Squ
   back_apart (Err e) g u c d is cd dn sw = still_apart u c d (back_still f v u e is.0).1 cd dn sw
 
   never_both : (b : Bool) → b ≡ true → b ≡ false → ⊥
-  never_both true a b = let z : ◌≡◌ {A = ℕ} 0 1 = cc in omega arith
-  never_both false a b = let z : ◌≡◌ {A = ℕ} 0 1 = cc in omega arith
+  never_both true a b = cc
+  never_both false a b = cc
 
   step_not_refused :
       (u : DeckView) (e : FloorFault) → StepRefused f v u e → s.net < s.full → v.ready ≡ true → ⊥

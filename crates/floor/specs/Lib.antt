@@ -5,3 +5,4 @@ pub mod Resting
 pub mod Present
 pub mod Lines
 pub mod Telling
+pub mod Asking

@@ -1,3 +1,4 @@
 pub mod WorkLists
 pub mod Tables
+pub mod Seating
 pub mod Answers

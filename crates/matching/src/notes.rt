@@ -4,33 +4,36 @@ ghost use Rattle.matchings.specs.Reaching.{Added};
 
 use crate::relation::Relation;
 
-// The search tells at most this many classes of right members apart; all others are visited each time.
-const MOST: usize = 8192;
-
-// Which classes of right members were visited.
+// Which classes of right members were visited, in a lent byte for each class that is told apart.
 #[derive(Drop)]
-pub struct Notes {
-    seen: [u8; MOST],
+pub struct Notes<'a> {
+    seen: &'a mut [u8],
 }
 
-impl Notes {
-    // No class is noted.
-    pub fn none() -> Notes
-        ensures { (c : ℕ) → result.seen ! c ≡ 0 }
+impl<'a> Notes<'a> {
+    pub fn over(seen: &'a mut [u8]) -> Notes<'a> {
+        Notes { seen }
+    }
+}
+
+impl Notes<'_> {
+    // No class is noted any longer.
+    pub fn clear(&mut self)
+        ensures { (c : ℕ) → self.new.seen.now ! c ≡ 0 }
     {
-        Notes { seen: [0; MOST] }
+        self.seen.fill(0);
     }
 
     // Notes the class of a right member. False only if it was noted before; one that is not known, or past the end of the
     // notes, always passes for new.
     pub fn is_new<R: Relation>(&mut self, rel: &R, right: usize) -> bool
         requires { right < R.Relation.size rel.now }
-        ensures { Added (R.Relation.allowed rel.now) (R.Relation.size rel.now) (R.Relation.classes rel.now) right self.old.seen self.new.seen result }
+        ensures { Added (R.Relation.allowed rel.now) (R.Relation.size rel.now) (R.Relation.classes rel.now) right self.old.seen.now self.new.seen.now result }
     {
         let Some(class) = rel.class(right) else {
             return true;
         };
-        if class >= MOST {
+        if class >= self.seen.len() {
             return true;
         }
         let fresh = self.seen[class] == 0;

@@ -2,10 +2,12 @@ ghost use Rattle.std.specs.Prelude.{◌≡◌, ℕ, ◌<◌, ◌≤◌, length};
 ghost use Rattle.matchings.specs.Matchings.{◌!◌};
 ghost use Rattle.matchings.specs.Reaching.{loose, Inj, Chosen};
 ghost use Rattle.matchings.specs.Placing.{Turned, Others, Confined};
-ghost use Rattle.matching.specs.WorkLists.{members_of, parents_of, places, Room};
+ghost use Rattle.matching.specs.WorkLists.{members_of, parents_of, Room};
 ghost use Rattle.matching.specs.Tables.{Ready, Kept};
+ghost use Rattle.matching.specs.Seating.{Seated};
 ghost use Rattle.matching.specs.Answers.{Outcome};
 
+use crate::notes::Notes;
 use crate::quest::Quest;
 use crate::reaching::{line_up, reach};
 use crate::relation::Relation;
@@ -26,8 +28,8 @@ fn choose<R: Relation>(
     work: &WorkList,
     count: usize,
 ) -> Option<usize>
-    requires size { (length mate.now ≡ R.Relation.size quest.now.rel.now) × (count ≤ places work.now) }
-    requires inj { Inj (length mate.now) (λ k. mate.now ! k) }
+    requires seated { Seated (R.Relation.size quest.now.rel.now) mate.now }
+    requires room { Room count work.now }
     requires below { (k : ℕ) → k < count → members_of work.now ! k < length mate.now }
     ensures { Chosen (loose (R.Relation.allowed quest.now.rel.now) quest.now.wild quest.now.left) mate.now (members_of work.now) count result }
 {
@@ -54,6 +56,7 @@ fn rotate(mate: &mut [usize], left: usize, work: &WorkList, count: usize, start:
 {
     let mut holder = left;
     let mut k = start;
+    // Kept as it is: the loop goes from parent to parent, and no iterator is plainer.
     while k != 0 {
         let next = work.member(k);
         mate.swap(holder, next);
@@ -69,10 +72,10 @@ pub fn place<R: Relation>(
     quest: &Quest<R>,
     mate: &mut [usize],
     tables: &mut Tables,
+    notes: &mut Notes,
 ) -> Result<Option<usize>, Stuck>
-    requires size { length mate.old ≡ R.Relation.size quest.now.rel.now }
+    requires seated { Seated (R.Relation.size quest.now.rel.now) mate.old }
     requires ready { Ready (length mate.old) tables.old }
-    requires inj { Inj (length mate.old) (λ k. mate.old ! k) }
     requires others { Others (loose (R.Relation.allowed quest.now.rel.now) quest.now.wild) (length mate.old) quest.now.left mate.old }
     requires confined { Confined (loose (R.Relation.allowed quest.now.rel.now) quest.now.wild) (length mate.old) quest.now.fixed tables.old.block.now mate.old }
     ensures kept { Kept tables.old tables.new }
@@ -89,7 +92,7 @@ pub fn place<R: Relation>(
         marks: tables.marks,
         count: mate.len(),
     };
-    let count = reach(quest, goal, movable, mate, guard.marks, tables.work);
+    let count = reach(quest, goal, movable, mate, guard.marks, notes, tables.work);
     let sealed = (guard.marks[mate[goal]] == 0).then_some(count);
     let Some(start) = choose(quest, mate, tables.work, count) else {
         return Err(Stuck { reached: count });

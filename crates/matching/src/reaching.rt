@@ -1,7 +1,8 @@
 ghost use Rattle.std.specs.Prelude.{◌≡◌, ℕ, ◌+◌, ◌<◌, ◌≤◌, length};
 ghost use Rattle.matchings.specs.Matchings.{◌!◌};
-ghost use Rattle.matchings.specs.Reaching.{Clear, Beyond, loose, Inj, Lined, Movable, Same, Reached, Closed, Ended, Joins};
-ghost use Rattle.matching.specs.WorkLists.{members_of, parents_of, places, Room, SameRoom};
+ghost use Rattle.matchings.specs.Reaching.{Clear, Beyond, loose, Lined, Movable, Same, Reached, Closed, Ended, Joins};
+ghost use Rattle.matching.specs.WorkLists.{members_of, parents_of, Room, SameRoom};
+ghost use Rattle.matching.specs.Seating.{Seated};
 
 use crate::notes::Notes;
 use crate::quest::Quest;
@@ -39,9 +40,8 @@ pub fn visit<R: Relation>(
     marks: &mut [u8],
     work: &mut WorkList,
 ) -> usize
-    requires size { (length mate.now ≡ R.Relation.size quest.now.rel.now) × (length mate.now ≤ length marks.old) }
-    requires room { Room (length mate.now) work.old }
-    requires inj { Inj (length mate.now) (λ k. mate.now ! k) }
+    requires seated { Seated (R.Relation.size quest.now.rel.now) mate.now }
+    requires room { (length mate.now ≤ length marks.old) × Room (length mate.now) work.old }
     requires head { (head < count) × (count ≤ movable) }
     requires movable { Movable (length mate.now) quest.now.fixed movable (members_of work.old) }
     requires reached { Reached (loose (R.Relation.allowed quest.now.rel.now) quest.now.wild) (length mate.now) quest.now.fixed quest.now.left mate.now (members_of work.old) (parents_of work.old) marks.old count }
@@ -78,8 +78,8 @@ fn find<R: Relation>(
     from: usize,
     to: usize,
 ) -> Option<usize>
-    requires size { (length mate.now ≡ R.Relation.size quest.now.rel.now) × ((from ≤ to) × ((to ≤ places work.now) × (goal < length mate.now))) }
-    requires inj { Inj (length mate.now) (λ k. mate.now ! k) }
+    requires seated { Seated (R.Relation.size quest.now.rel.now) mate.now }
+    requires places { (from ≤ to) × (Room to work.now × (goal < length mate.now)) }
     requires below { (k : ℕ) → k < to → members_of work.now ! k < length mate.now }
     ensures { Joins (loose (R.Relation.allowed quest.now.rel.now) quest.now.wild goal) mate.now (members_of work.now) to result }
 {
@@ -100,11 +100,11 @@ pub fn reach<R: Relation>(
     movable: usize,
     mate: &[usize],
     marks: &mut [u8],
+    notes: &mut Notes,
     work: &mut WorkList,
 ) -> usize
-    requires size { (length mate.now ≡ R.Relation.size quest.now.rel.now) × (length mate.now ≤ length marks.old) }
-    requires room { Room (length mate.now) work.old }
-    requires inj { Inj (length mate.now) (λ k. mate.now ! k) }
+    requires seated { Seated (R.Relation.size quest.now.rel.now) mate.now }
+    requires room { (length mate.now ≤ length marks.old) × Room (length mate.now) work.old }
     requires left { (members_of work.old ! 0 ≡ quest.now.left) × (0 < movable) }
     requires goal { (goal < length mate.now) × (quest.now.fixed ≤ goal) }
     requires movable { Movable (length mate.now) quest.now.fixed movable (members_of work.old) }
@@ -114,11 +114,12 @@ pub fn reach<R: Relation>(
     ensures rest { Beyond (length mate.now) marks.old marks.new }
     ensures room { SameRoom work.old work.new }
 {
-    let mut notes = Notes::none();
+    notes.clear();
     marks[mate[quest.left]] = 1;
     let mut asked = 0;
     let mut head = 0;
     let mut tail = 1;
+    // Kept as it is: the list grows behind the loop, so that no iterator can lend it.
     while head < tail && marks[mate[goal]] == 0 {
         if let Some(k) = find(quest, goal, mate, work, asked, tail) {
             work.join(tail, goal, k);

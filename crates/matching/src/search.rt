@@ -1,17 +1,22 @@
 ghost use Rattle.std.specs.Prelude.{◌≡◌, ℕ, ◌+◌, ◌<◌, ◌≤◌, length, map, IsOk, MatchBool};
 ghost use Rattle.matchings.specs.Matchings.{◌!◌, First};
 ghost use Rattle.matchings.specs.Regular.{RegularCounts};
-ghost use Rattle.matchings.specs.Reaching.{Clear, Inj, loose};
+ghost use Rattle.matchings.specs.Reaching.{Clear, loose};
 ghost use Rattle.matchings.specs.Placing.{Held, Split, HasLeast};
 ghost use Rattle.matching.specs.WorkLists.{member_of, members_of};
 ghost use Rattle.matching.specs.Tables.{Ready, Kept};
+ghost use Rattle.matching.specs.Seating.{Seated};
 ghost use Rattle.matching.specs.Answers.{Answer, Exactly, Settled};
 
+use crate::notes::Notes;
 use crate::placing::{Stuck, place};
 use crate::quest::Quest;
 use crate::relation::Relation;
 use crate::tables::Tables;
 use crate::work_list::Entry;
+
+// The search tells at most this many classes of right members apart; all others are visited each time.
+const NOTES: usize = 8192;
 
 // No matching is perfect: so many members at the front of the work list block every one.
 #[derive(Clone, Copy, Debug, PartialEq, Eq)]
@@ -61,7 +66,12 @@ fn take_free<R: Relation>(rel: &R, next: usize, mate: &mut [usize]) -> bool
 }
 
 // Some perfect matching, or some left members that block.
-fn settle<R: Relation>(rel: &R, mate: &mut [usize], tables: &mut Tables) -> Result<(), Blockers>
+fn settle<R: Relation>(
+    rel: &R,
+    mate: &mut [usize],
+    tables: &mut Tables,
+    notes: &mut Notes,
+) -> Result<(), Blockers>
     requires size { length mate.old ≡ R.Relation.size rel.now }
     requires ready { Ready (length mate.old) tables.old }
     requires united { Clear tables.old.block.now (length mate.old) }
@@ -81,7 +91,7 @@ fn settle<R: Relation>(rel: &R, mate: &mut [usize], tables: &mut Tables) -> Resu
             fixed: 0,
             left: next,
         };
-        if let Err(Stuck { reached }) = place(&quest, mate, tables) {
+        if let Err(Stuck { reached }) = place(&quest, mate, tables, notes) {
             let count = tables.work.gather(reached, n);
             return Err(Blockers { count });
         }
@@ -92,8 +102,8 @@ fn settle<R: Relation>(rel: &R, mate: &mut [usize], tables: &mut Tables) -> Resu
 // True only if no later member of the block of `left` has a lesser right member that `left` allows. False lets the search proper
 // look.
 fn has_least<R: Relation>(rel: &R, left: usize, mate: &[usize], block: &[usize]) -> bool
-    requires size { (length mate.now ≡ R.Relation.size rel.now) × ((length block.now ≡ length mate.now) × (left < length mate.now)) }
-    requires inj { Inj (length mate.now) (λ k. mate.now ! k) }
+    requires seated { Seated (R.Relation.size rel.now) mate.now }
+    requires left { (length block.now ≡ length mate.now) × (left < length mate.now) }
     ensures { MatchBool result (HasLeast (R.Relation.allowed rel.now) (length mate.now) left block.now mate.now) (Unit {0}) }
 {
     let held = mate[left];
@@ -106,7 +116,7 @@ fn has_least<R: Relation>(rel: &R, left: usize, mate: &[usize], block: &[usize])
 }
 
 // Of a perfect matching the first in dictionary order.
-fn refine<R: Relation>(rel: &R, mate: &mut [usize], tables: &mut Tables)
+fn refine<R: Relation>(rel: &R, mate: &mut [usize], tables: &mut Tables, notes: &mut Notes)
     requires size { length mate.old ≡ R.Relation.size rel.now }
     requires ready { Ready (length mate.old) tables.old }
     requires united { Clear tables.old.block.now (length mate.old) }
@@ -126,7 +136,7 @@ fn refine<R: Relation>(rel: &R, mate: &mut [usize], tables: &mut Tables)
             fixed: left,
             left,
         };
-        let Ok(Some(sealed)) = place(&quest, mate, tables) else {
+        let Ok(Some(sealed)) = place(&quest, mate, tables, notes) else {
             continue;
         };
         split(tables.block, tables.work.first(sealed), left + 1);
@@ -147,7 +157,9 @@ pub fn first_matching<R: Relation>(
     ensures kept { Kept tables.old tables.new }
 {
     tables.block.fill(0);
-    settle(rel, mate, tables)?;
-    refine(rel, mate, tables);
+    let mut seen = [0; NOTES];
+    let mut notes = Notes::over(&mut seen[..mate.len().min(NOTES)]);
+    settle(rel, mate, tables, &mut notes)?;
+    refine(rel, mate, tables, &mut notes);
     Ok(())
 }

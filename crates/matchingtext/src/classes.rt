@@ -30,17 +30,15 @@ fn split_by(row: &[u8], classes: &mut [usize], twins: &mut [Option<usize>])
     }
 }
 
-// Gives each column of a relation the number of a column that is the same in every row, its class.
-fn find_classes(rows: &[u8], count: usize, classes: &mut [usize], twins: &mut [Option<usize>])
-    requires rows { count * (count + 1) ≤ length rows.now }
-    requires size { (length classes.old ≡ count) × (length twins.old ≡ count) }
-    ensures { AlikeColumns rows.now count classes.new }
+// Gives each column of a table the number of a column that is the same in every row, its class.
+fn find_classes(table: &TextTable, classes: &mut [usize], twins: &mut [Option<usize>])
+    requires size { (length classes.old ≡ table.now.count) × (length twins.old ≡ table.now.count) }
+    ensures { AlikeColumns table.now.rows.now table.now.count classes.new }
 {
     classes.fill(0);
-    for row in 0..count {
-        let from = row * (count + 1);
+    for left in 0..table.count {
         twins.fill(None);
-        split_by(&rows[from..from + count], classes, twins);
+        split_by(table.row(left), classes, twins);
     }
 }
 
@@ -50,7 +48,7 @@ pub fn classes_of(heap: Global, table: &TextTable) -> Result<Vec<usize>, AllocEr
 {
     let mut classes = vec![in heap; 0usize; table.count]?;
     let mut twins = vec![in heap; None; table.count]?;
-    find_classes(table.rows, table.count, &mut classes, &mut twins);
+    find_classes(table, &mut classes, &mut twins);
     Ok(classes)
 }
 

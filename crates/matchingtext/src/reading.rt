@@ -34,15 +34,11 @@ fn is_row(text: &[u8], at: usize, n: usize) -> bool
     requires { at ≤ length text.now }
     ensures { Decides result (Row text.now at n) }
 {
-    if n >= text.len() - at {
-        return false;
-    }
-    for bit in &text[at..at + n] {
-        if !matches!(*bit, b'0' | b'1') {
-            return false;
-        }
-    }
-    text[at + n] == b'\n'
+    n < text.len() - at
+        && text[at..at + n]
+            .iter()
+            .all(|bit| matches!(*bit, b'0' | b'1'))
+        && text[at + n] == b'\n'
 }
 
 // Where `n` rows from `from` on end.

@@ -1,4 +1,5 @@
-ghost use Rattle.std.specs.Prelude.{◌≡◌, ◌+◌, ◌*◌, ◌≤◌, length};
+ghost use Rattle.std.specs.Prelude.{◌≡◌, ℕ, ◌+◌, ◌*◌, ◌<◌, ◌≤◌, length};
+ghost use Rattle.matchingtext.specs.Classes.{one};
 ghost use Rattle.matchingtext.specs.Sheets.{allowed_by};
 
 use matching::Relation;
@@ -20,13 +21,24 @@ impl<'a> TextTable<'a> {
     }
 }
 
+impl TextTable<'_> {
+    // The characters of a row, without its newline.
+    pub(crate) fn row(&self, left: usize) -> &[u8]
+        requires { left < self.now.count }
+        ensures long { length result.now ≡ self.now.count }
+        ensures ones { (right : ℕ) → right < self.now.count → one result.now right ≡ allowed_by self.now.rows.now self.now.count left right }
+    {
+        let from = left * (self.count + 1);
+        &self.rows[from..from + self.count]
+    }
+}
+
 impl Relation for TextTable<'_> {
     ghost size = { λ t. t.count };
 
     ghost allowed = { λ t l r. allowed_by t.rows.now t.count l r };
 
     fn allows(&self, left: usize, right: usize) -> bool {
-        let count = self.count;
-        self.rows[left * (count + 1) + right] == b'1'
+        self.row(left)[right] == b'1'
     }
 }

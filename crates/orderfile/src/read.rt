@@ -54,10 +54,13 @@ fn all_entries_below(pairs: &[[u8; 2]], limit: usize) -> bool
     pairs.iter().all(|pair| usize::from(word(pair)) < limit)
 }
 
-fn entries(heap: Global, pairs: &[[u8; 2]]) -> Result<Vec<u16>, AllocError>
-    ensures { IfOk result (λ v. v.items ≡ entries_in pairs.now) }
+// The kinds and the entries in lists of their own: the one place where reading asks for memory.
+fn kept(heap: Global, kinds: &[u8], pairs: &[[u8; 2]]) -> Result<(Vec<u8>, Vec<u16>), AllocError>
+    ensures { IfOk result (λ lists. (lists.0.items ≡ kinds.now) × (lists.1.items ≡ entries_in pairs.now)) }
 {
-    pairs.iter().map(word).collect(heap)
+    let kinds = Vec::from_slice(heap, kinds)?;
+    let entries = pairs.iter().map(word).collect(heap)?;
+    Ok((kinds, entries))
 }
 
 fn read_wanted(heap: Global, slots: usize, body: &[u8]) -> Result<AnyRule, OrderFault>
@@ -68,7 +71,8 @@ fn read_wanted(heap: Global, slots: usize, body: &[u8]) -> Result<AnyRule, Order
     if !all_entries_below(pairs, slots) {
         return Err(OrderFault::BadEntry);
     }
-    let wanted = entries(heap, pairs)?;
+    // a number record has no kinds
+    let (_, wanted) = kept(heap, &[], pairs)?;
     Ok(NumberRule::new(wanted)?.into())
 }
 
@@ -80,9 +84,8 @@ fn read_kinds(heap: Global, slots: usize, body: &[u8]) -> Result<AnyRule, OrderF
     if !all_kinds_exist(kinds) {
         return Err(OrderFault::BadEntry);
     }
-    let kinds = Vec::from_slice(heap, kinds)?;
     let (pairs, _) = masks.as_chunks();
-    let masks = entries(heap, pairs)?;
+    let (kinds, masks) = kept(heap, kinds, pairs)?;
     Ok(KindRule::new(kinds, masks)?.into())
 }
 

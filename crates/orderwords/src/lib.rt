@@ -53,7 +53,7 @@ impl fmt::Display for SlotLine<'_> {
             rule: &order.rule,
             slot,
         };
-        write!(f, "slot {slot} (row {row}, bay {bay}):{carriers}\n")
+        writeln!(f, "slot {slot} (row {row}, bay {bay}):{carriers}")
     }
 }
 

@@ -1,5 +1,5 @@
 ghost use Rattle.std.specs.Prelude.{◌≡◌};
-ghost use Rattle.decklists.specs.declared.fault.BuildFault.TheVariants.{NoMemory};
+ghost use Rattle.chain.specs.declared.fault.FloorFault.TheVariants.{NoMemory};
 ghost use Rattle.scripting.specs.Refusals.{refusal_number};
 ghost use Rattle.scripting.specs.declared.refusal.Refusal.TheVariants.{Record, Deck, Floor};
 
@@ -15,7 +15,7 @@ pub(crate) enum Refusal {
     Record(OrderFault),
     // No deck is made for the order.
     Deck(BuildFault),
-    // The floor refuses it.
+    // The floor refuses it, or there is no memory to carry it out.
     Floor(FloorFault),
 }
 
@@ -56,9 +56,9 @@ impl From<FloorFault> for Refusal {
 }
 
 impl From<AllocError> for Refusal {
-    ghost from_gives = { λ _ refusal. refusal ≡ Deck NoMemory };
+    ghost from_gives = { λ _ refusal. refusal ≡ Floor NoMemory };
 
-    fn from(error: AllocError) -> Refusal {
-        Refusal::Deck(BuildFault::from(error))
+    fn from(_error: AllocError) -> Refusal {
+        Refusal::Floor(FloorFault::NoMemory)
     }
 }

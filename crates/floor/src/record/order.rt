@@ -1,9 +1,10 @@
 // Orders.
-ghost use Rattle.std.specs.Prelude.{◌≡◌, ℕ, ◌+◌, ◌<◌, min, length, OnErr};
+ghost use Rattle.std.specs.Prelude.{◌≡◌, ℕ, ◌+◌, ◌<◌, min, length, OnErr, MatchResult};
 ghost use Rattle.grid.specs.Sides.{slot_count};
 ghost use Rattle.motion.specs.Carrying.{Good};
 ghost use Rattle.course.specs.Routes.{route_at, plan_of};
-ghost use Rattle.chain.specs.Calls.{AtRest, Clean, RuleFor, Ordered};
+ghost use Rattle.chain.specs.Calls.{AtRest, Clean, RuleFor, OrderRefused, Ordered};
+ghost use Rattle.floor.specs.Asking.{MayOrder};
 ghost use Rattle.floor.specs.Shown.{shown};
 ghost use Rattle.floor.specs.Telling.{Tells};
 ghost use Rattle.floor.specs.Present.{present};
@@ -66,6 +67,34 @@ impl Floor {
         self.steps_done == 0 || self.steps_done == self.stages.total()
     }
 
+    // Asks an order's questions in turn, and refuses by the first that is answered no.
+    fn may_order<D: Deck, R: Rule>(
+        &self,
+        deck: &D,
+        rule: &R,
+        marks: &[u8],
+    ) -> Result<(), FloorFault>
+        ensures { MatchResult result (λ _. MayOrder (shown self.now) (D.Deck.view deck.now) (R.Rule.meaning rule.now) marks.now) (OrderRefused (shown self.now) (D.Deck.view deck.now) (R.Rule.meaning rule.now) marks.now) }
+    {
+        if !self.is_at_rest() {
+            return Err(FloorFault::Unfinished);
+        }
+        let slots = self.sides.slots();
+        if marks.len() < slots {
+            return Err(FloorFault::FewMarks);
+        }
+        if !are_clean(&marks[..slots]) {
+            return Err(FloorFault::DirtyMarks);
+        }
+        if !self.stands(deck) {
+            return Err(FloorFault::Astray);
+        }
+        if !is_for(rule, slots) {
+            return Err(FloorFault::WrongRule);
+        }
+        Ok(())
+    }
+
     // Takes a new plan.
     fn take_on(&mut self, routes: &[Route])
         requires long { length routes.now ≡ slot_count self.old.sides.height self.old.sides.width }
@@ -93,24 +122,9 @@ impl Floor {
         ensures refused { OnErr result (self.new ≡ self.old) }
         ensures marks { marks.new ≡ marks.old }
     {
-        if !self.is_at_rest() {
-            return Err(FloorFault::Unfinished);
-        }
-        let slots = self.sides.slots();
-        if marks.len() < slots {
-            return Err(FloorFault::FewMarks);
-        }
-        if !are_clean(&marks[..slots]) {
-            return Err(FloorFault::DirtyMarks);
-        }
-        if !self.stands(deck) {
-            return Err(FloorFault::Astray);
-        }
-        if !is_for(rule, slots) {
-            return Err(FloorFault::WrongRule);
-        }
+        self.may_order(deck, rule, marks)?;
         let mut all = [NOWHERE; GREATEST_SLOTS];
-        let routes = &mut all[..slots];
+        let routes = &mut all[..self.sides.slots()];
         write_starts(&self.routes, self.steps_done, routes);
         let Ok(()) = make_plan(rule, self.sides, routes, marks) else {
             return Err(FloorFault::Unfillable);

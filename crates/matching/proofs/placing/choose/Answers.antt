@@ -35,7 +35,7 @@ loop-k-preserved g c =
             | else-right-least-via-then-right-least+else-may x ↦ λ a. absurd (both_ways _ (sym x.if-may.ensures) a)
             | else-right-least-via-else-right-least x ↦ λ a. x.if-right-least.false
           ])
-          (c.requires.inj.below _ (omega arith)))
+          (c.requires.seated.inj.below _ (omega arith)))
     ]
 
 pub returns : goal.returns

@@ -16,7 +16,7 @@ sealed_told A n fixed mate members count false h = tt
 pub returns-in_default-clause-placed : goal.returns-in_default-clause-placed
 returns-in_default-clause-placed g c =
     let L = subst (λ (x : ℕ). Lined x c.args.quest.now.fixed c.args.tables.now.block.now c.args.quest.now.left x c.line_up-movable.result (members_of c.line_up-movable.new.work)) c.requires.ready.block c.line_up-movable.ensures.lined in
-    (stuck _ _ _ _ _ _ _ _ c.requires.inj (omega arith) c.args.quest.now.free c.requires.confined L c.in_default.ensures, refl)
+    (stuck _ _ _ _ _ _ _ _ c.requires.seated.inj (omega arith) c.args.quest.now.free c.requires.confined L c.in_default.ensures, refl)
 
 pub returns-in_default-choose-clause-kept : goal.returns-in_default-choose-clause-kept
 returns-in_default-choose-clause-kept g c = record {
@@ -34,7 +34,7 @@ returns-in_default-choose-clause-kept g c = record {
 pub returns-in_default-choose-clause-placed : goal.returns-in_default-choose-clause-placed
 returns-in_default-choose-clause-placed g c =
     let L = subst (λ (x : ℕ). Lined x c.args.quest.now.fixed c.args.tables.now.block.now c.args.quest.now.left x c.line_up-movable.result (members_of c.line_up-movable.new.work)) c.requires.ready.block c.line_up-movable.ensures.lined in (
-      refused _ _ _ _ _ _ _ _ c.requires.inj (omega arith) c.args.quest.now.free c.requires.confined L _ _ c.in-Some.ensures c.member-goal.ensures _ _ _ _
+      refused _ _ _ _ _ _ _ _ c.requires.seated.inj (omega arith) c.args.quest.now.free c.requires.confined L _ _ c.in-Some.ensures c.member-goal.ensures _ _ _ _
           c.reach-count.ensures.reached c.reach-count.ensures.ended c.in_default-choose.ensures,
       refl,
     )
@@ -55,8 +55,8 @@ returns-clause-kept g c = record {
 pub returns-clause-placed : goal.returns-clause-placed
 returns-clause-placed g c =
     let L = subst (λ (x : ℕ). Lined x c.args.quest.now.fixed c.args.tables.now.block.now c.args.quest.now.left x c.line_up-movable.result (members_of c.line_up-movable.new.work)) c.requires.ready.block c.line_up-movable.ensures.lined in (
-      placed _ _ _ _ _ _ _ _ c.requires.inj (omega arith) c.args.quest.now.free c.requires.confined L _ _ c.in-Some.ensures c.member-goal.ensures _ _ _ _
+      placed _ _ _ _ _ _ _ _ c.requires.seated.inj (omega arith) c.args.quest.now.free c.requires.confined L _ _ c.in-Some.ensures c.member-goal.ensures _ _ _ _
           c.reach-count.ensures.reached c.reach-count.ensures.ended _ _ c.in-Some-choose.ensures c.requires.others c.rotate.ensures,
-      rw c.then_some-sealed.ensures (sealed_told _ _ _ _ _ _ _ (λ z. sealed_all _ _ _ _ _ _ _ _ c.requires.inj (omega arith) c.args.quest.now.free c.requires.confined L _ _ c.in-Some.ensures
+      rw c.then_some-sealed.ensures (sealed_told _ _ _ _ _ _ _ (λ z. sealed_all _ _ _ _ _ _ _ _ c.requires.seated.inj (omega arith) c.args.quest.now.free c.requires.confined L _ _ c.in-Some.ensures
           c.member-goal.ensures _ _ _ _ c.reach-count.ensures.reached c.reach-count.ensures.ended (eqb-true _ _ z))),
     )

@@ -10,7 +10,7 @@ use Rattle.matching.proofs.reaching.reach.Goals.{then-is_new, else-is_new}
 
 pub loop-head-init : goal.loop-head-init
 loop-head-init g c = (
-  started _ _ _ _ _ _ _ _ (omega arith) (omega arith) (omega arith) (omega (arith, c.requires.inj.below c.args.quest.now.left (omega arith))) c.requires.clear,
+  started _ _ _ _ _ _ _ _ (omega arith) (omega arith) (omega arith) (omega (arith, c.requires.seated.inj.below c.args.quest.now.left (omega arith))) c.requires.clear,
   λ k l h. absurd (omega arith),
   omega arith,
   λ k h. refl,
@@ -18,7 +18,7 @@ loop-head-init g c = (
   same_as _ _,
   omega arith,
   refl,
-  λ k h. absurd (let z = c.none-notes.ensures k in omega arith),
+  λ k h. absurd (let z = c.clear.ensures k in omega arith),
   omega arith,
 )
 
@@ -29,8 +29,8 @@ join-requires g c =
 
 pub returns-in-Some : goal.returns-in-Some
 returns-in-Some g c =
-    let m = c.requires.inj.below c.args.goal (omega arith) in
-    let b = c.requires.inj.below c.args.quest.now.left (omega arith) in
+    let m = c.requires.seated.inj.below c.args.goal (omega arith) in
+    let b = c.requires.seated.inj.below c.args.quest.now.left (omega arith) in
     let e = c.loop-head.auto.marks in
     let z = length-set c.args.marks.now (c.args.mate.now ! c.args.quest.now.left) 1 in
     let own = members_long c.loop-head.work in
@@ -58,8 +58,8 @@ loop-head-preserved g c =
     let members = members_of c.loop-head.work in
     let head = c.loop-head.head in
     let e = c.member.ensures in
-    let added : (fresh : Bool) → Added R n class (mate ! c.member.result) c.loop-head.notes.seen c.is_new.new.self.seen fresh → Added R n class (mate ! (members ! head)) c.loop-head.notes.seen c.is_new.new.self.seen fresh =
-    λ fresh h. subst (λ (x : ℕ). Added R n class (mate ! x) c.loop-head.notes.seen c.is_new.new.self.seen fresh) e h in
+    let added : (fresh : Bool) → Added R n class (mate ! c.member.result) c.loop-head.notes.seen.now c.is_new.new.self.seen.now fresh → Added R n class (mate ! (members ! head)) c.loop-head.notes.seen.now c.is_new.new.self.seen.now fresh =
+    λ fresh h. subst (λ (x : ℕ). Added R n class (mate ! x) c.loop-head.notes.seen.now c.is_new.new.self.seen.now fresh) e h in
     elim c.if-is_new.branch [
       | then-is_new w ↦ simp (w.work-is, w.marks-is, w.tail-is) (
         w.visit-tail.ensures.reached,
@@ -76,9 +76,9 @@ loop-head-preserved g c =
       | else-is_new w ↦ simp (w.work-is, w.marks-is, w.tail-is) (
         c.loop-head.invariant.0,
         closed_skip A (length mate) _ _ class mate members _ _ head
-            (subst (λ (x : ℕ). IsClass A x class (mate ! (members ! head)) (class (mate ! (members ! head)))) (sym c.requires.size.0)
+            (subst (λ (x : ℕ). IsClass A x class (mate ! (members ! head)) (class (mate ! (members ! head)))) (sym c.requires.seated.many)
             (loose_class _ _ _ class _ _ ((added false w.if-is_new.ensures).known refl).0))
-            c.requires.inj c.loop-head.invariant.4 (omega arith) c.loop-head.invariant.1 c.loop-head.invariant.8
+            c.requires.seated.inj c.loop-head.invariant.4 (omega arith) c.loop-head.invariant.1 c.loop-head.invariant.8
             ((added false w.if-is_new.ensures).known refl).1,
         omega arith,
         c.loop-head.invariant.3,

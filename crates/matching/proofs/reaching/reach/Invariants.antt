@@ -13,7 +13,7 @@ invariant-loop-head g l =
     × Same l.movable (members_of l.initial.work) (members_of l.work)
     × (l.tail ≤ l.movable)
     × SameRoom l.initial.work l.work
-    × Noted (g.R.Relation.classes l.quest.rel.now) l.mate (members_of l.work) l.head l.notes.seen
+    × Noted (g.R.Relation.classes l.quest.rel.now) l.mate (members_of l.work) l.head l.notes.seen.now
     × (l.asked ≤ l.tail)
 
 abbrev pub decreases-loop-head : goal.decreases-loop-head

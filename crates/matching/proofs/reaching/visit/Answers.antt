@@ -29,7 +29,7 @@ loop-k-preserved g c =
     let f = c.requires.movable.fits in
     let b = c.loop-k.invariant.0.movable.below c.loop-k.k (omega arith) in
     let e = c.member-next.ensures in
-    let m = c.requires.inj.below c.member-next.result (omega arith) in
+    let m = c.requires.seated.inj.below c.member-next.result (omega arith) in
     let t = ap (λ x. c.args.mate.now ! x) c.member.ensures in
     let p = parents_long c.loop-k.work in
     elim c.if-may.branch [

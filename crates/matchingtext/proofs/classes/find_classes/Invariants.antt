@@ -1,5 +1,5 @@
 use Rattle.matchingtext.proofs.Splitting.{Alike}
 use Rattle.matchingtext.proofs.classes.find_classes.Given as goal
 
-abbrev pub invariant-loop-row : goal.invariant-loop-row
-invariant-loop-row l = Alike l.rows l.count l.row l.classes
+abbrev pub invariant-loop-left : goal.invariant-loop-left
+invariant-loop-left l = Alike l.table.rows.now l.table.count l.left l.classes

@@ -20,19 +20,13 @@ returns-in_err-kinds c =
     let p = err_from_is_err_and c.from_residual.result c.from_residual.ensures.1 in
     rw (p.1, p.2) (_, kinds_in c.args.slots c.args.body.now (λ i. (c.type_inv.body i).fits) c.requires, inr (refl, good))
 
-pub returns-in_err-masks : goal.returns-in_err-masks
-returns-in_err-masks c =
-    let good = subst GoodKinds c.split_at.ensures.front c.if-not-all_kinds_exist.ensures in
-    let p = err_from_is_err_and c.from_residual-in_err-masks.result c.from_residual-in_err-masks.ensures.1 in
-    rw (p.1, p.2) (_, kinds_in c.args.slots c.args.body.now (λ i. (c.type_inv.body i).fits) c.requires, inr (refl, good))
-
 pub returns : goal.returns
 returns c =
     let n = c.args.slots in
     let body = c.args.body.now in
     let good = subst GoodKinds c.split_at.ensures.front c.if-not-all_kinds_exist.ensures in
-    let ks = c.in_ok-new.ensures.0 ∙ c.in_ok-kinds.ensures.items ∙ c.split_at.ensures.front in
-    let masks = c.in_ok-new.ensures.1 ∙ c.in_ok-masks.ensures ∙ ap entries_in c.as_chunks.ensures.front ∙ ap entries_of c.split_at.ensures.back in
+    let ks = c.in_ok-new.ensures.0 ∙ c.in_ok-kinds.ensures.0 ∙ c.split_at.ensures.front in
+    let masks = c.in_ok-new.ensures.1 ∙ c.in_ok-kinds.ensures.1 ∙ ap entries_in c.as_chunks.ensures.front ∙ ap entries_of c.split_at.ensures.back in
     let is : rule_lists c.into.result ≡ kinds (take n body) (entries_of (drop n body)) =
     ap rule_lists c.into.ensures ∙ kinds_same _ _ _ _ ks masks in
     subst (λ (l : Lists). Held Kind n body l × GoodEntries l) (sym is)

@@ -35,7 +35,7 @@ returns-in_err-new c =
     let n = c.args.slots in
     let body = c.args.body.now in
     let small : Bytes body = λ i. (c.type_inv.body i).fits in
-    let is = c.in_ok-wanted.ensures ∙ ap entries_in c.as_chunks.ensures.front in
+    let is = c.in_ok-wanted.ensures.1 ∙ ap entries_in c.as_chunks.ensures.front in
     let bad = subst (λ (es : List ℕ). GoodWanted es → ⊥) is c.in_err-new.ensures in
     let p = err_from_is_err_and c.from_residual-in_err-new.result c.from_residual-in_err-new.ensures.1 in
     rw (p.1, p.2) (_, wanted_in n body small c.requires, inl (refl, bad))
@@ -49,5 +49,5 @@ returns c =
     let good = wanted_good n (pairs_of body) (length_wanted n body small c.requires) all in
     let is : rule_lists c.into.result ≡ numbers (entries_of body) =
     ap rule_lists c.into.ensures
-    ∙ ap numbers (c.in_ok-new.ensures ∙ c.in_ok-wanted.ensures ∙ ap entries_in c.as_chunks.ensures.front) in
+    ∙ ap numbers (c.in_ok-new.ensures ∙ c.in_ok-wanted.ensures.1 ∙ ap entries_in c.as_chunks.ensures.front) in
     subst (λ (l : Lists). Held Number n body l × GoodEntries l) (sym is) (wanted_in n body small c.requires, good)
