@@ -22,6 +22,7 @@ pub(super) fn blank_table(heap: Global, squares: usize) -> Result<Vec<Option<usi
 }
 
 // Notes which carrier comes to each square. Where some two come to one, the table is of no use.
+// Kept as it is: as a method it goes over one field and writes another, and the loop's proof had no names for the fields.
 pub(super) fn note_ends(
     extent: Extent,
     carriers: &[Carrier],

@@ -20,6 +20,7 @@ fn place_all(heap: Global, sides: Sides, laying: Laying) -> Result<Vec<Carrier>,
     ensures { IfOk result (λ v. Started laying sides.height sides.width v.items) }
 {
     let mut carriers = Vec::with_capacity(heap, sides.slots())?;
+    // Kept as it is: a chain would have to drop the slots that are not there, and all are.
     for number in 0..sides.slots() {
         let Some(slot) = sides.slot(number) else {
             unreachable!();
