@@ -1,14 +1,10 @@
-use Rattle.std.proofs.Common.{ℕ, length, sym, ap, arith}
+use Rattle.std.proofs.Common.{ℕ, sym, ap, arith}
 use Rattle.std.proofs.lemmas.Bool.{both_ways}
-use Rattle.std.proofs.lemmas.List.{length-take-le}
 use Rattle.matchings.specs.Matchings.{◌!◌}
-use Rattle.matchings.proofs.Choosing.{best_none, best_take, best_skip, best_all}
+use Rattle.matchings.proofs.Choosing.{best_take, best_skip}
 use Rattle.matching.proofs.Rooms.{first_at}
 use Rattle.matching.proofs.placing.choose.Goals as goal
 use Rattle.matching.proofs.placing.choose.Goals.{then-right-least+then-may, else-right-least, else-right-least-via-then-right-least+else-may, else-right-least-via-else-right-least}
-
-pub loop-k-init : goal.loop-k-init
-loop-k-init g c = best_none _ _ _ _ 0
 
 pub offset_bounds-mate-entry : goal.offset_bounds-mate-entry
 offset_bounds-mate-entry g c =
@@ -37,7 +33,3 @@ loop-k-preserved g c =
           ])
           (c.requires.seated.inj.below _ (omega arith)))
     ]
-
-pub returns : goal.returns
-returns g c = best_all _ _ _ _ _ _ _ _ c.loop-k.invariant
-    (omega (arith, ap length c.first-entry-items.ensures, length-take-le c.args.count c.args.work.now.entries.now (omega arith)))

@@ -1,35 +1,17 @@
-use Rattle.std.proofs.Common.{◌≡◌, ℕ, ◌+◌, ◌<◌, ◌≤◌, ◌≢◌, List, length, refl, sym, ap, ◌∙◌, subst, add-zero, ⊎_elim, arith, get_or-set_same}
+use Rattle.std.proofs.Common.{◌≡◌, ℕ, ◌+◌, ◌<◌, ◌≤◌, ◌≢◌, List, length, sym, ◌∙◌, subst, ⊎_elim, arith}
 use Rattle.std.proofs.lemmas.Bool.{cases_lt}
-use Rattle.std.proofs.lemmas.List.{length-drop, take_rest}
-use Rattle.matchings.specs.Matchings.{◌!◌}
 use Rattle.matchings.specs.Reaching.{Lined}
-use Rattle.matchings.proofs.Lines.{line_start, line_skip, line_more}
+use Rattle.matchings.proofs.Lines.{line_skip, line_more}
 use Rattle.matching.specs.WorkLists.{members_of}
 use Rattle.matching.proofs.Rooms.{members_long, rest_at}
 use Rattle.matching.proofs.reaching.line_up.Goals as goal
 use Rattle.matching.proofs.reaching.line_up.Goals.{then-l-left+then-label-block, else-l-left, else-l-left-via-then-l-left+else-label-block, else-l-left-via-else-l-left}
-
-pub loop-k-init : goal.loop-k-init
-loop-k-init g c =
-    let long = members_long c.args.work.now in (
-      rw add-zero (line_start _ _ _ _ _ (omega arith) c.args.quest.now.free
-          (ap (λ (xs : List ℕ). xs ! 0) c.put.ensures.members ∙ get_or-set_same (members_of c.args.work.now) 0 c.args.quest.now.left 0 (omega arith))),
-      refl,
-    )
 
 -- a line has a place for one more
 room_left : (n fixed : ℕ) (block : List ℕ) (left l m : ℕ) (members : List ℕ) → left < n → l < n → fixed ≤ l → l ≢ left → Lined n fixed block left l m members → m < n
 room_left n fixed block left l m members h k f d L =
     let lo = L.low in
     ⊎_elim (λ s. let q = L.fits s in omega arith) (λ s. omega arith) (cases_lt left l)
-
-pub put-requires-then-label-block : goal.put-requires-then-label-block
-put-requires-then-label-block g c =
-    let at = rest_at c.args.block.now c.args.quest.now.fixed c.loop-k.k 0 (omega arith) in
-    let r = room_left _ _ _ _ _ _ _ c.requires.left at.0 (omega arith) c.if-l-left.true c.loop-k.invariant.0 in
-    let a = c.put.ensures.room in
-    let b = c.loop-k.invariant.1 in
-    omega arith
 
 pub loop-k-preserved : goal.loop-k-preserved
 loop-k-preserved g c =
@@ -58,13 +40,3 @@ loop-k-preserved g c =
         c.loop-k.invariant.1,
       )
     ]
-
-pub returns : goal.returns
-returns g c =
-    let n = length c.args.block.now in
-    let long = ap length (take_rest c.args.block.now c.args.quest.now.fixed) ∙ length-drop c.args.quest.now.fixed c.args.block.now in
-    let e : c.args.quest.now.fixed + c.loop-k.k ≡ n = omega arith in
-    record {
-      lined = subst (λ (x : ℕ). Lined n c.args.quest.now.fixed c.args.block.now c.args.quest.now.left x c.loop-k.count (members_of c.loop-k.work)) e c.loop-k.invariant.0;
-      room = c.loop-k.invariant.1 ∙ c.put.ensures.room;
-    }

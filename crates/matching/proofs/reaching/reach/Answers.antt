@@ -1,52 +1,25 @@
-use Rattle.std.proofs.Common.{ℕ, Bool, true, false, ◌<◌, length, sym, refl, ◌∙◌, subst, inr, arith, length-set, get_or-set_other, get_or-set_same}
+use Rattle.std.proofs.Common.{ℕ, Bool, true, false, length, sym, refl, ◌∙◌, subst, arith, length-set}
 use Rattle.matchings.specs.Matchings.{◌!◌}
-use Rattle.matchings.proofs.Lines.{same_as, same_two}
+use Rattle.matchings.proofs.Lines.{same_two}
 use Rattle.matchings.specs.Reaching.{loose, IsClass, Added}
-use Rattle.matchings.proofs.Reaching.{started, goal_fits, joined, loose_class, closed_skip, noted_more}
+use Rattle.matchings.proofs.Reaching.{goal_fits, joined, loose_class, closed_skip, noted_more}
 use Rattle.matching.specs.WorkLists.{members_of}
 use Rattle.matching.proofs.Rooms.{members_long, parents_long}
 use Rattle.matching.proofs.reaching.reach.Goals as goal
 use Rattle.matching.proofs.reaching.reach.Goals.{then-is_new, else-is_new}
-
-pub loop-head-init : goal.loop-head-init
-loop-head-init g c = (
-  started _ _ _ _ _ _ _ _ (omega arith) (omega arith) (omega arith) (omega (arith, c.requires.seated.inj.below c.args.quest.now.left (omega arith))) c.requires.clear,
-  λ k l h. absurd (omega arith),
-  omega arith,
-  λ k h. refl,
-  c.requires.movable,
-  same_as _ _,
-  omega arith,
-  refl,
-  λ k h. absurd (let z = c.clear.ensures k in omega arith),
-  omega arith,
-)
 
 pub join-requires : goal.join-requires
 join-requires g c =
     let h = goal_fits _ _ _ _ _ _ _ _ _ _ c.args.goal c.loop-head.invariant.0 c.in-Some.ensures.0 (omega arith) (omega arith) (omega arith) in
     omega arith
 
-pub returns-in-Some : goal.returns-in-Some
-returns-in-Some g c =
+pub returns-in-Some-clause-reached : goal.returns-in-Some-clause-reached
+returns-in-Some-clause-reached g c =
     let m = c.requires.seated.inj.below c.args.goal (omega arith) in
-    let b = c.requires.seated.inj.below c.args.quest.now.left (omega arith) in
-    let e = c.loop-head.auto.marks in
-    let z = length-set c.args.marks.now (c.args.mate.now ! c.args.quest.now.left) 1 in
     let own = members_long c.loop-head.work in
     let theirs = parents_long c.loop-head.work in
-    let h : c.args.mate.now ! c.args.goal < length c.loop-head.marks = omega arith in
-    record {
-      reached = joined _ _ _ _ _ _ _ _ _ _ c.args.goal c.loop-head.invariant.0 c.in-Some.ensures.0 (omega arith) (omega arith) (omega arith)
-          _ _ c.join.ensures.members c.join.ensures.parents (omega arith) (omega arith) h c.in-Some.ensures.1;
-      ended = inr (omega (arith, get_or-set_same c.loop-head.marks (c.args.mate.now ! c.args.goal) 1 0 h));
-      rest = λ k h. get_or-set_other c.loop-head.marks (c.args.mate.now ! c.args.goal) k 1 0 (omega arith) ∙ c.loop-head.invariant.3 k h
-          ∙ get_or-set_other c.args.marks.now (c.args.mate.now ! c.args.quest.now.left) k 1 0 (omega arith);
-      room = c.join.ensures.room ∙ c.loop-head.invariant.7;
-    }
-
-pub overflow_add-head : goal.overflow_add-head
-overflow_add-head g c = let h = c.loop-head.invariant.0.fits in omega arith
+    joined _ _ _ _ _ _ _ _ _ _ c.args.goal c.loop-head.invariant.0 c.in-Some.ensures.0 (omega arith) (omega arith) (omega arith)
+    _ _ c.join.ensures.members c.join.ensures.parents (omega arith) (omega arith) (omega (arith, c.loop-head.auto.marks, length-set c.args.marks.now (c.args.mate.now ! c.args.quest.now.left) 1)) c.in-Some.ensures.1
 
 pub loop-head-preserved : goal.loop-head-preserved
 loop-head-preserved g c =

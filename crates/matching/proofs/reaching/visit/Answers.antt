@@ -1,28 +1,9 @@
-use Rattle.std.proofs.Common.{sym, refl, ap, ◌∙◌, arith, get_or-set_other}
+use Rattle.std.proofs.Common.{sym, ap, ◌∙◌, arith, get_or-set_other}
 use Rattle.matchings.specs.Matchings.{◌!◌}
-use Rattle.matchings.proofs.Lines.{same_as}
-use Rattle.matchings.proofs.Reaching.{turn_skip, turn_push}
+use Rattle.matchings.proofs.Reaching.{turn_skip, turn_push, turn_done}
 use Rattle.matching.proofs.Rooms.{parents_long}
 use Rattle.matching.proofs.reaching.visit.Goals as goal
 use Rattle.matching.proofs.reaching.visit.Goals.{then-may, else-may}
-
-pub loop-k-init : goal.loop-k-init
-loop-k-init g c = (
-  record {
-    movable = c.requires.movable;
-    same = same_as _ _;
-    reached = c.requires.reached;
-    closed = c.requires.closed;
-    passed = λ j a b. absurd (omega arith);
-    ahead = omega arith;
-    grows = omega arith;
-    behind = omega arith;
-    here = refl;
-    front = λ j h. refl;
-  },
-  λ k h. refl,
-  refl,
-)
 
 pub loop-k-preserved : goal.loop-k-preserved
 loop-k-preserved g c =
@@ -42,3 +23,8 @@ loop-k-preserved g c =
       | else-may w ↦ simp (w.work-is, w.marks-is, w.tail-is)
           (turn_skip _ _ _ _ _ _ _ _ _ _ _ _ _ _ _ c.loop-k.invariant.0 _ _ e t (sym w.if-may.ensures), c.loop-k.invariant.1, c.loop-k.invariant.2)
     ]
+
+pub returns-clause-closed : goal.returns-clause-closed
+returns-clause-closed g c =
+    let f = c.requires.head.1 in
+    turn_done _ _ _ _ _ _ _ _ _ _ _ _ _ _ _ c.loop-k.invariant.0 (omega (arith, c.loop-k.auto.k-end f))
