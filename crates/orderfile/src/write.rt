@@ -44,6 +44,7 @@ fn write_record(sides: Sides, lists: RecordLists, out: &mut [u8]) -> Result<usiz
 
 // Writes the record of an order at the front of a buffer, and answers its length. The rule is 1 number or 2 kind;
 // kinds go by carrier and are looked at under the kind rule alone; entries, by slot, are wanted carriers or masks.
+// Kept as it is: the rule comes as a number, since this call asks whether there is such a rule and refuses what is none.
 pub fn write(
     height: usize,
     width: usize,

@@ -36,6 +36,7 @@ fn make_first_line(height: usize, width: usize, length: usize) -> ArrayString<LO
 }
 
 // The line of a refusal.
+// Kept as it is: the refusals of reading, of decks and of the floor have nothing but their numbers in common.
 pub fn make_refused_line(number: u8) -> ArrayString<LONGEST>
     ensures { result.bytes ≡ refused_line_bytes number }
 {
