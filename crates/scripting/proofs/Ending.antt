@@ -11,7 +11,7 @@ use Rattle.serve.specs.Served.{Served}
 use Rattle.serve.specs.declared.Ending.{Ending}
 use Rattle.serve.specs.declared.Ending.TheVariants.{Stopped, Spent}
 use Rattle.scripting.specs.Scripts.{ScriptFor}
-use Rattle.scripting.specs.Writing.{written, InPhase, page_account, Closed}
+use Rattle.scripting.specs.Writing.{written, InPhase, page_account}
 use Rattle.scripting.specs.declared.page.Page.{Page}
 use Rattle.scripting.specs.declared.page.Phase.{Phase}
 use Rattle.scripting.specs.declared.page.Phase.TheVariants.{Ordering, Writing, Stepping, Over, Refused}
@@ -34,16 +34,15 @@ pub record Ended (s : Page) (o : OrderView) : Type 0 where
   pub deck : DeckView
   pub events : ℕ
   pub account : AccountOf s o floor deck events
-  pub closed : Closed s.phase
 
 pub ended :
-    (first s : Page) (o : OrderView) (f g : FloorView) (v w : DeckView) (budget : ℕ) (r : Ending)
+    {over : Type 0} (first s : Page) (o : OrderView) (f g : FloorView) (v w : DeckView) (budget : ℕ) (r : Ending)
     → longest o.height o.width + 1 < budget
     → page_account o first f v []
-    → Served f v (page_account o first) g w (page_account o s) (Closed s.phase) budget r
+    → Served f v (page_account o first) g w (page_account o s) over budget r
     → Ended s o
 ended first s o f g v w budget Stopped enough a S =
-    record { floor = g; deck = w; events = length (S.events ++ []); account = S.account [] a; closed = S.ended.0 }
+    record { floor = g; deck = w; events = length (S.events ++ []); account = S.account [] a }
 ended first s o f g v w budget Spent enough a S =
     let kept = S.account [] a in
     let few = few_events s o g w (length (S.events ++ [])) s.phase kept.1 in

@@ -1,5 +1,5 @@
 -- What the writer of a script keeps true while its order is carried out.
-use Rattle.std.specs.Prelude.{◌≡◌, ℕ, ◌+◌, ◌*◌, ◌<◌, ◌≤◌, true, List, ◌++◌, length, take, replicate, vec_items}
+use Rattle.std.specs.Prelude.{◌≡◌, ℕ, ◌+◌, ◌*◌, ◌<◌, ◌≤◌, true, List, ◌++◌, length, take, replicate, vec_items, None, Option}
 use Rattle.deck.specs.Decks.{DeckView}
 use Rattle.orderfile.specs.Records.{OrderView, GoodOrder}
 use Rattle.motion.specs.Plans.{Plan, plan_steps}
@@ -12,6 +12,7 @@ use Rattle.script.specs.Lines.{first_line_bytes}
 use Rattle.serve.specs.Choices.{Choice}
 use Rattle.scripting.specs.Orders.{order_rule, order_slots, new_place}
 use Rattle.scripting.specs.Scripts.{step_lines, plan_script, PlanOf}
+use Rattle.scripting.specs.declared.writer.Pending.{Pending}
 use Rattle.scripting.specs.declared.page.Page.{Page}
 use Rattle.scripting.specs.declared.page.Phase.{Phase}
 use Rattle.scripting.specs.declared.page.Phase.TheVariants.{Ordering, Writing, Stepping, Over, Refused}
@@ -72,13 +73,14 @@ page_chosen o s (Choice.order r marks) =
 page_chosen o s Choice.step = s.phase ≡ Stepping
 page_chosen o s Choice.back = ⊥
 
--- The order was refused, or all its steps are made. Or its answer was not told: what `serve` promises leaves it open.
-abbrev pub Closed : Phase → Type 0
-Closed Ordering = Unit {0}
-Closed Writing = ⊥
-Closed Stepping = ⊥
-Closed Over = Unit {0}
-Closed (Refused fault) = Unit {0}
+-- The order was refused, or all its steps are made. Or it is pending no longer, and its answer was not told: what `serve`
+-- promises leaves that open.
+abbrev pub Closed : Option Pending → Phase → Type 0
+Closed pending Ordering = pending ≡ None
+Closed pending Writing = ⊥
+Closed pending Stepping = ⊥
+Closed pending Over = Unit {0}
+Closed pending (Refused fault) = Unit {0}
 
 -- the page of an order that is yet to be made
 pub record Fresh (s : Page) (o : OrderView) : Type 0 where

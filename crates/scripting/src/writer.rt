@@ -75,7 +75,7 @@ impl<K: Task> Source<Roster> for ScriptWriter<K> {
 
     ghost chosen = { λ w choice. page_chosen K.order w.page choice };
 
-    ghost over = { λ w. Closed w.page.phase };
+    ghost over = { λ w. Closed w.pending w.page.phase };
 
     fn next(&mut self, floor: &Floor, _deck: &mut Roster) -> Option<Call> {
         match self.page.phase {
