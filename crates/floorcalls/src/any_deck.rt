@@ -75,6 +75,7 @@ pub(crate) fn contacted(deck: AnyDeck, closed: bool) -> AnyDeck {
     }
 }
 
+// Kept as it is: no function may hand out a `dyn` value, so each call matches on the type.
 impl<A: Deck, B: Deck> Deck for EitherDeck<A, B> {
     ghost view = { either_view A.Deck.view B.Deck.view };
 

@@ -4,7 +4,6 @@ use crate::refusal::Refusal;
 use crate::words::{entries, number, parts, two};
 use deck::Deck;
 use floor::record::Floor;
-use grid::heading::Heading;
 use rules::any::AnyRule;
 use rules::fault::RuleFault;
 use rules::kind::KindRule;

@@ -6,13 +6,16 @@ use rules::fault::RuleFault;
 use std::alloc::AllocError;
 use std::fmt;
 
-#[derive(Debug, Drop)]
+#[derive(Drop)]
 pub(crate) enum Refusal {
     Malformed,
     NoDeck,
     NoFloor,
-    // By its number.
-    Refused(u8),
+    // These are answered by their numbers.
+    Build(BuildFault),
+    Deck(DeckFault),
+    Floor(FloorFault),
+    Rule(RuleFault),
     // There is no memory for the answer itself.
     Unanswered(AllocError),
 }
@@ -25,25 +28,25 @@ impl From<AllocError> for Refusal {
 
 impl From<BuildFault> for Refusal {
     fn from(fault: BuildFault) -> Refusal {
-        Refusal::Refused(fault.number())
+        Refusal::Build(fault)
     }
 }
 
 impl From<DeckFault> for Refusal {
     fn from(fault: DeckFault) -> Refusal {
-        Refusal::Refused(fault.number())
+        Refusal::Deck(fault)
     }
 }
 
 impl From<FloorFault> for Refusal {
     fn from(fault: FloorFault) -> Refusal {
-        Refusal::Refused(fault.number())
+        Refusal::Floor(fault)
     }
 }
 
 impl From<RuleFault> for Refusal {
     fn from(fault: RuleFault) -> Refusal {
-        Refusal::Refused(fault.number())
+        Refusal::Rule(fault)
     }
 }
 
@@ -53,7 +56,10 @@ impl fmt::Display for Refusal {
             Refusal::Malformed => f.write_str("malformed"),
             Refusal::NoDeck => f.write_str("no deck"),
             Refusal::NoFloor => f.write_str("no floor"),
-            Refusal::Refused(number) => write!(f, "refused {number}"),
+            Refusal::Build(fault) => write!(f, "refused {}", fault.number()),
+            Refusal::Deck(fault) => write!(f, "refused {}", fault.number()),
+            Refusal::Floor(fault) => write!(f, "refused {}", fault.number()),
+            Refusal::Rule(fault) => write!(f, "refused {}", fault.number()),
             Refusal::Unanswered(_) => f.write_str("no memory"),
         }
     }
