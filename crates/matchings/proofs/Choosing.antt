@@ -35,6 +35,3 @@ module _ (can : ℕ → Bool) (mate members : List ℕ) (n k : ℕ) where
   pub best_skip : (best : Option ℕ) (least right : ℕ) → right ≡ mate ! (members ! k) → Best can mate members n k best least → (can right ≡ true → least ≤ right) → right < n
       → Best can mate members n (k + 1) best least
   best_skip best least right e b c l = skip best least b (subst (λ (x : ℕ). can x ≡ true → least ≤ x) e c) (subst (λ (x : ℕ). x < n) e l)
-
-pub best_all : (can : ℕ → Bool) (mate members : List ℕ) (n k count : ℕ) (best : Option ℕ) (least : ℕ) → Best can mate members n k best least → k ≡ count → Chosen can mate members count best
-best_all can mate members n k count best least b e = subst (λ (x : ℕ). Chosen can mate members x best) e b.chosen

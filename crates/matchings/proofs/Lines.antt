@@ -3,10 +3,7 @@ use Rattle.std.proofs.Common.{◌≡◌, ℕ, ◌+◌, ◌<◌, ◌≤◌, ◌�
 use Rattle.std.proofs.lemmas.Bool.{cases_eq}
 use Rattle.matchings.specs.Matchings.{◌!◌}
 use Rattle.matchings.specs.Reaching.{Lined, Movable, Same}
-use Rattle.matchings.specs.Placing.{Split, Gathered}
-
-pub same_as : (m : ℕ) (a : List ℕ) → Same m a a
-same_as m a = record { there = λ k h. (k, h, refl); back = λ k h. (k, h, refl) }
+use Rattle.matchings.specs.Placing.{Split}
 
 pub same_two : (m : ℕ) (a b c : List ℕ) → Same m a b → Same m b c → Same m a c
 same_two m a b c S T = record {
@@ -93,20 +90,6 @@ module _ (n fixed : ℕ) (block : List ℕ) (left l m : ℕ) (members : List ℕ
           (λ f. let c = L.covers i fi (omega arith) q in (c.0, let y = c.1 in omega arith, zk c.0 c.1 ∙ c.2)) (cases_eq i l);
     }
 
-pub line_start : (n fixed : ℕ) (block : List ℕ) (left : ℕ) (members : List ℕ) → left < n → fixed ≤ left → members ! 0 ≡ left → Lined n fixed block left fixed 1 members
-line_start n fixed block left members ll fl q0 = record {
-  some = omega arith;
-  first = q0;
-  low = omega arith;
-  fits = λ h. absurd (omega arith);
-  later = λ k p h. absurd (omega arith);
-  below = λ k h. let e : k ≡ 0 = omega arith in rw e (rw q0 ll);
-  above = λ k h. let e : k ≡ 0 = omega arith in rw e (rw q0 fl);
-  alike = λ k h. let e : k ≡ 0 = omega arith in rw e (rw q0 refl);
-  apart = λ j k hj hk e. omega arith;
-  covers = λ l fl hl. absurd (omega arith);
-}
-
 pub split_more : (members : List ℕ) (k label : ℕ) (old new : List ℕ) (at : ℕ) → at ≡ members ! k → at < length new → Split members k label old new → Split members (k + 1) label old (set new at label)
 split_more members k label old new at is h S i = ⊎_elim
     (λ e. inl ((k, omega arith, sym (e ∙ is)), ap (λ (x : ℕ). set new at label ! x) e ∙ get_or-set_same new at label 0 h))
@@ -114,29 +97,3 @@ split_more members k label old new at is h S i = ⊎_elim
     (λ s. let z = s.0.1 in inl ((s.0.0, omega arith, s.0.2), get_or-set_other new at i label 0 d ∙ s.1))
     (λ s. inr ((λ a. let z = a.1 in ⊎_elim (λ q. d (sym a.2 ∙ ap (λ (x : ℕ). members ! x) q ∙ sym is)) (λ q. s.0 (a.0, omega arith, a.2)) (cases_eq a.0 k)), get_or-set_other new at i label 0 d ∙ s.1))
     (S i)) (cases_eq i at)
-
-pub line_movable : (n fixed : ℕ) (block : List ℕ) (left m : ℕ) (members : List ℕ) → left < n → Lined n fixed block left n m members → Movable n fixed m members
-line_movable n fixed block left m members h L = record { fits = L.fits h; below = L.below; above = L.above; apart = L.apart }
-
--- the members from `reached` to below k stand behind the first one; those from k on are where they were
-pub record Shifting (reached k : ℕ) (old new : List ℕ) : Type 0 where
-  pub first : new ! 0 ≡ old ! 0
-  pub done : (i : ℕ) → i + reached < k → new ! (i + 1) ≡ old ! (i + reached)
-  pub ahead : (i : ℕ) → k ≤ i → new ! i ≡ old ! i
-
-pub shift_none : (reached : ℕ) (old : List ℕ) → Shifting reached reached old old
-shift_none reached old = record { first = refl; done = λ i h. absurd (omega arith); ahead = λ i h. refl }
-
-pub shift_more : (reached k t : ℕ) (old new after : List ℕ) (x : ℕ) → x ≡ new ! k → after ≡ set new t x → 0 < reached → reached ≤ k → t + reached ≡ k + 1 → k < length new
-    → Shifting reached k old new → Shifting reached (k + 1) old after
-shift_more reached k t old new after x xe is pos low at lk S = record {
-  first = ap (λ xs. xs ! 0) is ∙ get_or-set_other new t 0 x 0 (omega arith) ∙ S.first;
-  done = λ i h. ⊎_elim
-      (λ e. let q : i + 1 ≡ t = omega arith in
-      ap (λ (y : ℕ). after ! y) q ∙ ap (λ xs. xs ! t) is ∙ get_or-set_same new t x 0 (omega arith) ∙ xe ∙ S.ahead k (omega arith) ∙ ap (λ (y : ℕ). old ! y) (sym e))
-      (λ d. ap (λ xs. xs ! (i + 1)) is ∙ get_or-set_other new t (i + 1) x 0 (omega arith) ∙ S.done i (omega arith)) (cases_eq (i + reached) k);
-  ahead = λ i h. ap (λ xs. xs ! i) is ∙ get_or-set_other new t i x 0 (omega arith) ∙ S.ahead i (omega arith);
-}
-
-pub shift_all : (reached k n : ℕ) (old new : List ℕ) → k ≡ n → Shifting reached k old new → Gathered n reached old new
-shift_all reached k n old new e S = record { first = S.first; rest = λ i h. S.done i (omega arith) }

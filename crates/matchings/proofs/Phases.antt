@@ -3,8 +3,8 @@ use Rattle.std.proofs.Common.{◌≡◌, ℕ, ◌+◌, ◌<◌, ◌≤◌, Bool,
 use Rattle.std.proofs.lemmas.Bool.{cases_eq, cases_lt, cond-true, cond-false, le-leb, lt-leb}
 use Rattle.matchings.proofs.Counting.{holder}
 use Rattle.matchings.specs.Matchings.{◌!◌, First}
-use Rattle.matchings.specs.Reaching.{Inj, Clear, Among, loose}
-use Rattle.matchings.specs.Placing.{Confined, Sealed, Split, Others, Like, Placed, Refused, Held}
+use Rattle.matchings.specs.Reaching.{Inj, Among, loose}
+use Rattle.matchings.specs.Placing.{Confined, Sealed, Split, Like, Placed, Refused, Held}
 
 module _ (A : ℕ → ℕ → Bool) where
   pub loose_wild : (w l r : ℕ) → w ≤ l → loose A w l r ≡ true
@@ -23,19 +23,8 @@ module _ (A : ℕ → ℕ → Bool) where
     allowed = λ l h. loose_wild 0 l (m ! l) (omega arith);
   }
 
-  pub held_others : (n w : ℕ) (m : List ℕ) → Held (loose A w) n m → Others (loose A (w + 1)) n w m
-  held_others n w m H l h d = ⊎_elim
-      (λ s. loose_real (w + 1) l (m ! l) (omega arith) ∙ sym (loose_real w l (m ! l) s) ∙ H.allowed l h)
-      (λ s. loose_wild (w + 1) l (m ! l) (omega arith)) (cases_lt l w)
-
-  pub held_more : (n fixed w left : ℕ) (old new : List ℕ) → Placed (loose A w) n fixed left old new → Held (loose A w) n new
-  held_more n fixed w left old new P = record { inj = P.inj; allowed = P.allowed }
-
   pub held_all : (n w : ℕ) (m : List ℕ) → n ≤ w → Held (loose A w) n m → Held A n m
   held_all n w m e H = record { inj = H.inj; allowed = λ l h. sym (loose_real w l (m ! l) (omega arith)) ∙ H.allowed l h }
-
-  pub held_loose : (n w : ℕ) (m : List ℕ) → Held A n m → Held (loose A w) n m
-  held_loose n w m H = record { inj = H.inj; allowed = λ l h. loose_more w l (m ! l) (H.allowed l h) }
 
 -- held, and those below `left` have the least that they can have
 pub record Sorted (A : ℕ → ℕ → Bool) (n left : ℕ) (m : List ℕ) : Type 0 where
@@ -57,12 +46,6 @@ module _ (A : ℕ → ℕ → Bool) (n : ℕ) where
     where
       back : (j : ℕ) → j ≤ left → (p : ℕ → ℕ) → Like A n j new p → Like A n j old p
       back j h p L = record { inj = L.inj; allowed = L.allowed; kept = λ l q. L.kept l q ∙ P.kept l (omega arith) }
-
-  pub sorted_others : (left : ℕ) (m : List ℕ) → Sorted A n left m → Others A n left m
-  sorted_others left m S l h d = S.held.allowed l h
-
-pub confined_zero : (A : ℕ → ℕ → Bool) (n fixed : ℕ) (block m : List ℕ) → Clear block n → Confined A n fixed block m
-confined_zero A n fixed block m c p P i j hi hj e = c i hi ∙ sym (c j hj)
 
 -- after the split each still stays in its block
 pub confined_more : (A : ℕ → ℕ → Bool) (n left : ℕ) (old new block after members : List ℕ) (count label : ℕ) → Inj n (λ k. old ! k) → Confined A n left block old

@@ -1,6 +1,5 @@
 -- How the reached members grow: the first one, one more, one visit, the goal.
 use Rattle.std.proofs.Common.{◌≡◌, ℕ, ◌+◌, ◌-◌, ◌<◌, ◌≤◌, Bool, true, false, cond, leb, ◌≢◌, List, length, set, sym, refl, ap, ◌∙◌, subst, ⊎_elim, arith, get_or-set_other, get_or-set_same}
-use Rattle.std.proofs.lemmas.List.{get_or_past}
 use Rattle.std.proofs.lemmas.Bool.{cases_eq, cases_lt, both_ways}
 use Rattle.matchings.proofs.Counting.{room}
 use Rattle.matchings.proofs.Lines.{same_two, exchanged, same_exchanged}
@@ -164,21 +163,6 @@ module _ (A : ℕ → ℕ → Bool) (n fixed left : ℕ) (mate Q parents marks :
   m0 : set marks (mate ! left) 1 ! (mate ! left) ≡ 1
   m0 = get_or-set_same marks (mate ! left) 1 0 lm
 
-  pub started : Reached A n fixed left mate Q parents (set marks (mate ! left) 1) 1
-  started = record {
-    some = omega arith;
-    fits = omega arith;
-    first = q0;
-    below = only (λ k. Q ! k < n) (rw q0 ll);
-    above = only (λ k. fixed ≤ Q ! k) (rw q0 fl);
-    apart = λ j k hj hk e. omega arith;
-    rank = λ k pos h. absurd (omega arith);
-    link = λ k pos h. absurd (omega arith);
-    ticked = only (λ k. 0 < set marks (mate ! left) 1 ! (mate ! (Q ! k))) (rw (q0, m0) (omega arith));
-    from = λ r lr h. ⊎_elim (λ e. (0, omega arith, ap (λ x. mate ! x) q0 ∙ sym e))
-        (λ d. let a = get_or-set_other marks (mate ! left) r 1 0 d in let b = clear r lr in absurd (omega arith)) (cases_eq r (mate ! left));
-  }
-
 -- those not settled yet allow everything, of every class
 pub loose_class : (A : ℕ → ℕ → Bool) (n wild : ℕ) (class : ℕ → ℕ) (right c : ℕ) → IsClass A n class right c → IsClass (loose A wild) n class right c
 loose_class A n wild class right c is = (is.0, λ l s ll ls e. ap (λ (b : Bool). cond (leb wild l) true b) (is.1 l s ll ls e))
@@ -203,11 +187,6 @@ closed_skip A n fixed m class mate members marks seen head is inj movable lh clo
     let same = is.1 (members ! j) (mate ! (members ! f.0)) (movable.below j lj) (right f.0 (omega arith)) f.2 in
     closed f.0 j lf lj (same ∙ subst (λ (x : ℕ). A (members ! j) (mate ! (members ! x)) ≡ true) e a))
     (λ d. closed i j (omega arith) lj a) (cases_eq i head)
-
--- a table of zeros notes none
-pub none_noted : (seen : List ℕ) → Clear seen (length seen) → (c : ℕ) → 0 < seen ! c → ⊥
-none_noted seen clear c h =
-    ⊎_elim (λ l. let z = clear c l in omega arith) (λ l. let z = get_or_past seen c 0 l in omega arith) (cases_lt c (length seen))
 
 -- one class more is noted, that of the right member of the member at `head`
 pub noted_more :

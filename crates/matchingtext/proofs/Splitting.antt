@@ -6,9 +6,9 @@ use Rattle.std.proofs.lemmas.Bool.{cases_eq}
 use Rattle.std.proofs.Math.Bool.{Bool-set}
 use Rattle.std.proofs.Math.Logic.{∥∥₁_elim}
 use Rattle.matchings.specs.Matchings.{◌!◌}
-use Rattle.matchings.specs.Reaching.{Clear, IsClass}
+use Rattle.matchings.specs.Reaching.{IsClass}
 use Rattle.matchingtext.specs.Sheets.{allowed_by}
-use Rattle.matchingtext.specs.Classes.{Twinless, SplitBy, AlikeColumns}
+use Rattle.matchingtext.specs.Classes.{AlikeColumns}
 
 -- the twin of a class k, if there is one: it was of class k, and differs from k in this row
 abbrev pub Twin : (ℕ → Bool) → ℕ → List ℕ → ℕ → Option ℕ → Type 0
@@ -26,10 +26,6 @@ pub record Splitting (ones : ℕ → Bool) (n : ℕ) (old new : List ℕ) (twins
   pub sorted : (j : ℕ) → j < c → Sorted ones n old j (new ! j)
   pub rest : (j : ℕ) → c ≤ j → new ! j ≡ old ! j
   pub twin : (k : ℕ) → k < n → Twin ones n old k (get_or twins k None)
-
-pub splitting_none : (ones : ℕ → Bool) (n : ℕ) (old : List ℕ) (twins : List (Option ℕ)) → Twinless n twins → Splitting ones n old old twins 0
-splitting_none ones n old twins fresh =
-    record { sorted = λ j h. absurd (omega arith); rest = λ j h. refl; twin = λ k h. rw (fresh k h) tt }
 
 module _ (ones : ℕ → Bool) (n : ℕ) (old new : List ℕ) (twins : List (Option ℕ)) (c : ℕ) (s : Splitting ones n old new twins c) (lc : c < n) (long : length new ≡ n) where
   -- column c agrees with its class, and keeps it
@@ -104,36 +100,10 @@ module _ (ones : ℕ → Bool) (n : ℕ) (old new : List ℕ) (twins : List (Opt
       (subst (λ (x : ℕ). Twin ones n old class (Some x)) (sym e) g.1)))
       (λ o. subst (λ (x : Option ℕ). Twin ones n old k x) (sym (get_or-set_other twins class k (Some t) None o)) (s.twin k h)) (cases_eq k class))
 
-pub split_all : (ones : ℕ → Bool) (n : ℕ) (old new : List ℕ) (twins : List (Option ℕ)) (c : ℕ) → n ≤ c → Splitting ones n old new twins c → SplitBy ones n old new
-split_all ones n old new twins c all s = record {
-  below = λ j h. (s.sorted j (omega arith)).below;
-  agrees = λ j h. (s.sorted j (omega arith)).agrees;
-  kin = λ j h. (s.sorted j (omega arith)).kin;
-}
-
 -- each column is the same as its class in the first `row` rows
 pub record Alike (rows : List ℕ) (n row : ℕ) (classes : List ℕ) : Type 0 where
   pub below : (c : ℕ) → c < n → classes ! c < n
   pub same : (l c : ℕ) → l < row → c < n → allowed_by rows n l c ≡ allowed_by rows n l (classes ! c)
-
-pub alike_none : (rows : List ℕ) (n : ℕ) (classes : List ℕ) → Clear classes n → Alike rows n 0 classes
-alike_none rows n classes zero = record { below = λ c h. let z = zero c h in omega arith; same = λ l c h. absurd (omega arith) }
-
-pub alike_more :
-    (rows : List ℕ) (n row : ℕ) (ones : ℕ → Bool) (old new : List ℕ)
-    → Alike rows n row old
-    → ((c : ℕ) → c < n → ones c ≡ allowed_by rows n row c)
-    → SplitBy ones n old new
-    → Alike rows n (row + 1) new
-alike_more rows n row ones old new a is s = record {
-  below = s.below;
-  same = λ l c ll lc. ⊎_elim
-      (λ e. subst (λ (x : ℕ). allowed_by rows n x c ≡ allowed_by rows n x (new ! c)) (sym e) (sym (is c lc) ∙ s.agrees c lc ∙ is (new ! c) (s.below c lc)))
-      (λ d. ⊎_elim
-      (λ kept. a.same l c (omega arith) lc ∙ ap (λ (x : ℕ). allowed_by rows n l x) (sym kept))
-      (λ kin. a.same l c (omega arith) lc ∙ ap (λ (x : ℕ). allowed_by rows n l x) (sym kin) ∙ sym (a.same l (new ! c) (omega arith) (s.below c lc)))
-      (s.kin c lc)) (cases_eq l row);
-}
 
 -- a list as long as the front that is kept is that front
 pub front : (n : ℕ) (a b : List ℕ) → length a ≡ n → take n (a ++ b) ≡ a

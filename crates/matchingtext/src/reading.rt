@@ -47,6 +47,7 @@ fn rows_end(text: &[u8], from: usize, n: usize) -> Option<usize>
     ensures { Ends text.now from n result }
 {
     let mut at = from;
+    // Kept as it is: the place goes on only past a row that was found, so an iterator of places would be no plainer.
     for row in 0..n {
         if !is_row(text, at, n) {
             return None;

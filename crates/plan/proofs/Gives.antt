@@ -16,7 +16,7 @@ use Rattle.planning.specs.MiddleRows.{allows, Round}
 use Rattle.planning.proofs.Slots.{slots_of}
 use Rattle.planning.proofs.Rounds.{SameEnds as SamePlanEnds, Agree, first_agree, waiting_agree, perfect_moved, first_moved, first_below, round_agree, regular_counts, none_left}
 use Rattle.plan.specs.Routes.{plan_on, SameEnds}
-use Rattle.plan.specs.Rows.{middle_of, waiting_routes, Tallied, LowRows, Lowest, Gave, Unplaced, Whole, FirstRows}
+use Rattle.plan.specs.Rows.{middle_of, waiting_routes, Tallied, LowRows, Lowest, Gave, Whole, FirstRows}
 
 abbrev start_row_of : List Route → ℕ → ℕ
 start_row_of rs c = (route_at rs c).start.row
@@ -215,9 +215,6 @@ pub record Upto (s : Sides) (a b : List Route) (r k : ℕ) : Type 0 where
   pub rounds : (m : ℕ) → m < k → RoundDone s b m
   pub rest : (c : ℕ) → c < length a → k ≤ middle_of b c → middle_of b c ≡ r
 
-pub upto_none : (s : Sides) (b : List Route) (r : ℕ) → ((c : ℕ) → c < length b → middle_of b c ≡ r) → Upto s b b r 0
-upto_none s b r h = record { ends = ends_same b; rounds = λ m l. absurd (omega arith); rest = λ c l q. h c l }
-
 pub upto_fresh : (s : Sides) (a b : List Route) (r k : ℕ) → Upto s a b r k → k < r → (c : ℕ) → c < length b → middle_of b c ≡ k → ⊥
 upto_fresh s a b r k U l c lc e = let z = U.rest c (let y = U.ends.long in omega arith) (omega arith) in omega arith
 
@@ -294,43 +291,6 @@ module _ (s : Sides) (b : List Route) (W : Whole s b) (k : ℕ) (R : (m : ℕ) �
 pub record Unplacing (a b : List Route) (r n : ℕ) : Type 0 where
   pub ends : SameEnds a b
   pub all : (c : ℕ) → c < n → middle_of b c ≡ r
-
-pub unplacing_none : (a : List Route) (r : ℕ) → Unplacing a a r 0
-unplacing_none a r = record { ends = ends_same a; all = λ c l. absurd (omega arith) }
-
-pub unplacing_all : (a b : List Route) (r n : ℕ) → n ≡ length a → Unplacing a b r n → Unplaced a b r
-unplacing_all a b r n e E = record { ends = E.ends; all = λ c l. E.all c (omega arith) }
-
-module _ (a b : List Route) (r n : ℕ) (E : Unplacing a b r n) (l : n < length b) where
-  abbrev fresh : Route
-  fresh = record { start = (route_at b n).start; middle_row = r; goal = (route_at b n).goal }
-
-  at_n : route_at (set b n fresh) n ≡ fresh
-  at_n = get_or-set_same b n fresh nowhere l
-
-  elsewhere : (d : ℕ) → d ≢ n → route_at (set b n fresh) d ≡ route_at b d
-  elsewhere d ne = get_or-set_other b n d fresh nowhere ne
-
-  pub unplacing_more : Unplacing a (set b n fresh) r (n + 1)
-  unplacing_more =
-      record {
-        ends =
-            ends_both E.ends (record {
-              long = length-set b n fresh;
-              start =
-                  λ d.
-                  ⊎_elim (λ e. subst (λ (x : ℕ). (route_at (set b n fresh) x).start ≡ (route_at b x).start) (sym e) (ap (λ (s : Route). s.start) at_n))
-                  (λ ne. ap (λ (s : Route). s.start) (elsewhere d ne)) (cases_eq d n);
-              goal =
-                  λ d.
-                  ⊎_elim (λ e. subst (λ (x : ℕ). (route_at (set b n fresh) x).goal ≡ (route_at b x).goal) (sym e) (ap (λ (s : Route). s.goal) at_n))
-                  (λ ne. ap (λ (s : Route). s.goal) (elsewhere d ne)) (cases_eq d n);
-            });
-        all =
-            λ d h.
-            ⊎_elim (λ e. subst (λ (x : ℕ). middle_of (set b n fresh) x ≡ r) (sym e) (ap (λ (s : Route). s.middle_row) at_n))
-            (λ ne. ap (λ (s : Route). s.middle_row) (elsewhere d ne) ∙ E.all d (omega arith)) (cases_eq d n);
-      }
 
 -- what the search for a matching answers where the counts by bay are regular
 module _ (A B : ℕ → ℕ → Bool) (n w : ℕ) (e : n ≡ w) (same : (j g : ℕ) → j < w → g < w → A j g ≡ B j g) where

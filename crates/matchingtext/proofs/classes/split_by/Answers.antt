@@ -2,12 +2,9 @@ use Rattle.std.proofs.Common.{length, sym, refl, ◌∙◌, arith}
 use Rattle.std.proofs.lemmas.List.{set-get_or}
 use Rattle.matchings.specs.Matchings.{◌!◌}
 use Rattle.matchingtext.specs.Classes.{one}
-use Rattle.matchingtext.proofs.Splitting.{splitting_none, split_keeps, split_moves, split_all, differ, agree}
+use Rattle.matchingtext.proofs.Splitting.{split_keeps, split_moves, differ, agree}
 use Rattle.matchingtext.proofs.classes.split_by.Goals as goal
 use Rattle.matchingtext.proofs.classes.split_by.Goals.{then-is_one, else-is_one}
-
-pub loop-c-init : goal.loop-c-init
-loop-c-init c = splitting_none _ _ _ _ c.requires.fresh
 
 pub loop-c-preserved : goal.loop-c-preserved
 loop-c-preserved c =
@@ -25,6 +22,3 @@ loop-c-preserved c =
           (split_keeps (one row) (length row) c.args.classes.now c.loop-c.classes c.loop-c.twins i class c.loop-c.invariant (omega arith) (omega arith) refl below
           (sym here ∙ agree _ _ w.if-is_one.false ∙ there))
     ]
-
-pub returns : goal.returns
-returns c = split_all _ _ _ _ _ _ (omega arith) c.loop-c.invariant

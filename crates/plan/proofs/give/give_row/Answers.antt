@@ -1,9 +1,6 @@
 use Rattle.std.proofs.Common.{arith}
-use Rattle.plan.proofs.Gives.{given_none, given_more, gave, still_waits, given_low}
+use Rattle.plan.proofs.Gives.{given_more, gave, still_waits, given_low}
 use Rattle.plan.proofs.give.give_row.Goals as goal
-
-pub loop-bay-init : goal.loop-bay-init
-loop-bay-init c = given_none _ _ _ c.requires.fresh
 
 pub lowest-carrier-requires : goal.lowest-carrier-requires
 lowest-carrier-requires c =
