@@ -13,11 +13,9 @@ const MOST: usize = 4;
 const CELLS: usize = 20;
 
 // The relation of the given number: bit k of it says of row k / n and column k % n.
-fn write_cells(number: u32, n: usize, cells: &mut [u8])
-    requires { n ≤ 4 }
-{
+fn write_cells(number: u32, n: usize, cells: &mut [u8]) {
     let mut bits = number;
-    for row in cells.chunks_mut(n + 1).take(n) {
+    for row in cells.chunks_mut(n.saturating_add(1)).take(n) {
         for cell in row.iter_mut().take(n) {
             *cell = if bits % 2 == 1 { b'1' } else { b'0' };
             bits /= 2;
@@ -27,11 +25,11 @@ fn write_cells(number: u32, n: usize, cells: &mut [u8])
 
 // The list of right members of the given number: its digits in base n.
 fn list(number: usize, n: usize) -> [usize; MOST]
-    requires { (0 < n) × (n ≤ 4) }
+    requires { 0 < n }
 {
     let mut rights = [0; MOST];
     let mut rest = number;
-    for right in rights[..n].iter_mut().rev() {
+    for right in rights[..n.min(MOST)].iter_mut().rev() {
         *right = rest % n;
         rest /= n;
     }
@@ -39,11 +37,9 @@ fn list(number: usize, n: usize) -> [usize; MOST]
 }
 
 // Whether the left members have right members of their own that they allow.
-fn is_perfect(cells: &[u8], n: usize, rights: &[usize]) -> bool
-    requires { n ≤ 4 }
-{
+fn is_perfect(cells: &[u8], n: usize, rights: &[usize]) -> bool {
     let allowed = cells
-        .chunks(n + 1)
+        .chunks(n.saturating_add(1))
         .zip(rights)
         .all(|(row, right)| row.get(*right) == Some(&b'1'));
     let apart = rights.iter().enumerate().all(|(l, right)| rights
@@ -55,12 +51,13 @@ fn is_perfect(cells: &[u8], n: usize, rights: &[usize]) -> bool
 
 // The first perfect matching, by trying all lists.
 fn brute(cells: &[u8], n: usize) -> Option<[usize; MOST]>
-    requires { (0 < n) × (n ≤ 4) }
+    requires { 0 < n }
 {
     let lists = [1usize, 4, 27, 256];
-    for number in 0..lists[n - 1] {
+    let count = lists.get(n - 1).copied().unwrap_or(0);
+    for number in 0..count {
         let rights = list(number, n);
-        if is_perfect(cells, n, &rights[..n]) {
+        if is_perfect(cells, n, &rights[..n.min(MOST)]) {
             return Some(rights);
         }
     }
