@@ -45,6 +45,7 @@ pub trait Deck {
         ensures { MatchOption result ((view self.now).carriers ≤ carrier) (λ h. (carrier < (view self.now).carriers) × (h ≡ (view self.now).heading carrier)) };
 
     // Sets one heading, given by its number, and nothing else.
+    // Kept as it is: the heading comes as a number, since the deck asks itself whether there is such a heading.
     fn steer(&mut self, carrier: usize, heading: u8) -> Result<(), DeckFault>
         ensures { Steered (view self.old) carrier heading result (view self.new) };
 

@@ -26,6 +26,7 @@ impl Notes<'_> {
 
     // Notes the class of a right member. False only if it was noted before; one that is not known, or past the end of the
     // notes, always passes for new.
+    // Kept as it is: no value goes with the flag, since the class is noted from then on either way.
     pub fn is_new<R: Relation>(&mut self, rel: &R, right: usize) -> bool
         requires { right < R.Relation.size rel.now }
         ensures { Added (R.Relation.allowed rel.now) (R.Relation.size rel.now) (R.Relation.classes rel.now) right self.old.seen.now self.new.seen.now result }

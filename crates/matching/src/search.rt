@@ -45,6 +45,7 @@ fn split(block: &mut [usize], at_hand: &[Entry], label: usize)
 
 // Gives `next` a right member that it allows and that nobody before it has, in exchange for its own: the least, since that leaves
 // the second pass less to do. What is promised is only that true tells of such a gift; false lets the search proper look.
+// Kept as it is: no value goes with the flag, since either answer leaves a whole list of right members.
 fn take_free<R: Relation>(rel: &R, next: usize, mate: &mut [usize]) -> bool
     requires size { (length mate.old ≡ R.Relation.size rel.now) × (next < length mate.old) }
     requires held { Held (loose (R.Relation.allowed rel.now) next) (length mate.old) mate.old }
@@ -81,6 +82,7 @@ fn settle<R: Relation>(
 {
     number(mate);
     let n = mate.len();
+    // Kept as it is: the members are the numbers themselves, and each turn may change the whole of `mate`.
     for next in 0..n {
         if take_free(rel, next, mate) {
             continue;
@@ -125,6 +127,7 @@ fn refine<R: Relation>(rel: &R, mate: &mut [usize], tables: &mut Tables, notes: 
     ensures first { First (R.Relation.allowed rel.now) (length mate.old) mate.new }
 {
     let n = mate.len();
+    // Kept as it is: the members are the numbers themselves, and each turn may change the whole of `mate`.
     for left in 0..n {
         let block = &mut *tables.block;
         if has_least(rel, left, mate, block) {

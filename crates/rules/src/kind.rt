@@ -4,6 +4,7 @@ ghost use Rattle.rules.specs.Entries.{GoodKinds};
 pub mod acts;
 
 // How many kinds of lens there are.
+// Kept as it is: a kind is a number from 0 to 15 in every record, and its place in a mask; names would say no more.
 pub const KINDS: u8 = 16;
 
 // The kind rule: each carrier has a kind, and each slot a mask with a bit for each kind, bit 0 the lowest. A slot

@@ -74,6 +74,7 @@ pub fn first_line(
 }
 
 // Writes the line of a refusal from place `at` on, and answers how many bytes it is.
+// Kept as it is: the refusals of reading, of decks and of the floor have nothing but their numbers in common.
 pub fn refused_line(out: &mut [u8], at: usize, number: u8) -> Result<usize, FloorFault>
     ensures { Written (refused_line_bytes number) out.old at result out.new }
 {
