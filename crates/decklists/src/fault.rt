@@ -1,6 +1,6 @@
-ghost use Rattle.std.specs.Prelude.{◌≡◌};
+ghost use Rattle.std.specs.Prelude.{◌≡◌, Some};
 ghost use Rattle.decklists.specs.declared.fault.BuildFault.TheVariants.{NoMemory};
-ghost use Rattle.decklists.specs.Faults.{build_number};
+ghost use Rattle.decklists.specs.Faults.{build_number, build_text};
 
 use std::alloc::AllocError;
 use std::error::Error;
@@ -30,6 +30,8 @@ impl From<AllocError> for BuildFault {
 }
 
 impl fmt::Display for BuildFault {
+    ghost output = { λ fault. Some (build_text fault) };
+
     fn fmt<W: fmt::Write>(&self, f: &mut fmt::Formatter<W>) -> fmt::Result {
         f.write_str(match self {
             BuildFault::BadSides => "a side is not from 1 to 16 cells",

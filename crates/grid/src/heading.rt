@@ -1,9 +1,6 @@
 ghost use Rattle.std.specs.Prelude.{◌≡◌};
 ghost use Rattle.grid.specs.Headings.{Names, heading_number, letter, turned_heading, opposite};
 
-use std::error::Error;
-use std::fmt;
-
 // Which way a carrier goes in the next move, by one square.
 #[derive(Clone, Copy, PartialEq, Eq, Debug)]
 pub enum Heading {
@@ -34,14 +31,6 @@ impl TryFrom<u8> for Heading {
         }
     }
 }
-
-impl fmt::Display for NoHeading {
-    fn fmt<W: fmt::Write>(&self, f: &mut fmt::Formatter<W>) -> fmt::Result {
-        f.write_str("no heading has this number")
-    }
-}
-
-impl Error for NoHeading {}
 
 impl Heading {
     pub fn number(self) -> u8

@@ -58,7 +58,7 @@ fn rows_end(text: &[u8], from: usize, n: usize) -> Option<usize>
 }
 
 // A relation at the front of a text, and what follows it.
-#[derive(Drop)]
+#[derive(Clone, Copy)]
 pub struct Sheet<'a> {
     pub table: TextTable<'a>,
     pub rest: &'a [u8],

@@ -5,7 +5,7 @@ ghost use Rattle.matchingtext.specs.Sheets.{allowed_by};
 use matching::Relation;
 
 // The rows of a relation as text, each with its newline.
-#[derive(Drop)]
+#[derive(Clone, Copy)]
 pub struct TextTable<'a> {
     pub(crate) rows: &'a [u8],
     pub(crate) count: usize,
@@ -22,6 +22,13 @@ impl<'a> TextTable<'a> {
 }
 
 impl TextTable<'_> {
+    // How many left members there are, and as many right members.
+    pub fn count(&self) -> usize
+        ensures { result ≡ self.now.count }
+    {
+        self.count
+    }
+
     // The characters of a row, without its newline.
     pub(crate) fn row(&self, left: usize) -> &[u8]
         requires { left < self.now.count }

@@ -1,5 +1,5 @@
 // How the carriers of a new deck stand.
-ghost use Rattle.std.specs.Prelude.{IfOk, MatchResult};
+ghost use Rattle.std.specs.Prelude.{◌≡◌, ℕ, All, IfOk, MatchResult, None, Option};
 ghost use Rattle.grid.specs.Sides.{GoodSides};
 ghost use Rattle.decklists.specs.Carriers.{carriers_view};
 ghost use Rattle.decklists.specs.Laid.{read_view};
@@ -41,7 +41,8 @@ impl Carriers {
         width: usize,
         laying: Laying,
     ) -> Result<Carriers, BuildFault>
-        ensures { MatchResult result (λ c. GoodSides height width × New height width (read_view laying (carriers_view c))) (NotMade height width) }
+        ensures new { MatchResult result (λ c. GoodSides height width × New height width (read_view laying (carriers_view c))) (NotMade height width) }
+        ensures blank { IfOk result (λ c. All (λ (note : Option ℕ). note ≡ None) c.notes.items) }
     {
         let sides = Sides::new(height, width).ok_or(BuildFault::BadSides)?;
         let extent = laying.extent(sides);

@@ -24,7 +24,7 @@ use rules::Rule;
 fn are_clean(marks: &[u8]) -> bool
     ensures { Tells result (Clean marks.now (length marks.now)) }
 {
-    // Kept as it is: that the question is asked by a loop over the elements of the lent marks is fixed.
+    // Kept as it is: the project fixes this form, a loop over the elements of the lent marks (docs/DECISIONS.md).
     for mark in marks {
         if *mark != 0 {
             return false;
