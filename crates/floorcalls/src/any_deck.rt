@@ -51,6 +51,7 @@ pub(crate) fn make(
 }
 
 // The deck with its contact opened or closed; a roster has none.
+// Kept as it is: a turned deck lends what it lies over only to be read, so the deck is taken apart and put together again.
 fn plain_contacted(deck: PlainDeck, closed: bool) -> PlainDeck {
     match deck {
         EitherDeck::Second(mut board) => {

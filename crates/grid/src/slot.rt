@@ -15,8 +15,8 @@ impl Slot {
         ensures { result ≡ slot_square self }
     {
         Square {
-            row: self.row as usize,
-            column: 3 * self.bay as usize + 1,
+            row: usize::from(self.row),
+            column: 3 * usize::from(self.bay) + 1,
         }
     }
 }

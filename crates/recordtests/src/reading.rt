@@ -64,15 +64,18 @@ fn kind_records_with_a_wrong_byte(rt: HostRuntime) -> Result<(), Fail> {
     try_damages(&rt, rt.alloc(), &KIND, &damages)
 }
 
+// Reads the record cut off at each length.
+fn try_cuts(rt: &impl Abort, heap: Global, whole: &[u8]) {
+    for length in 0..whole.len() {
+        assert_eq!(rt; refusal(heap, &whole[..length]), Some(31));
+    }
+}
+
 #[test]
 fn records_of_a_wrong_length(rt: HostRuntime) -> Result<(), Fail> {
     let heap = rt.alloc();
-    for length in 0..NUMBER.len() {
-        assert_eq!(rt; refusal(heap, &NUMBER[..length]), Some(31));
-    }
-    for length in 0..KIND.len() {
-        assert_eq!(rt; refusal(heap, &KIND[..length]), Some(31));
-    }
+    try_cuts(&rt, heap, &NUMBER);
+    try_cuts(&rt, heap, &KIND);
     let mut long = Vec::from_slice(heap, &NUMBER)?;
     long.push(0)?;
     assert_eq!(rt; refusal(heap, &long), Some(31));

@@ -7,6 +7,7 @@ use crate::kind::KindRule;
 use crate::number::NumberRule;
 
 // Either rule.
+// Kept as it is: which rule it is shows when its record is read, and writing asks for it again, so each call matches on it.
 #[derive(Drop)]
 pub enum AnyRule {
     Number(NumberRule),

@@ -31,7 +31,7 @@ impl Carriers {
         j != k && self.extent.led(carrier.square, carrier.heading) == self.list[j].square
     }
 
-    // Some two carriers exchange squares.
+    // Some two carriers exchange squares. It goes over the numbers, since an exchange is asked of two carriers by number.
     fn some_exchange(&self) -> bool
         requires remain { AllRemain (carriers_view self.now) }
         requires noted { EndsNoted (carriers_view self.now) self.now.notes.items }

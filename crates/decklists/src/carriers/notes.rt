@@ -66,6 +66,7 @@ impl Carriers {
     {
         swap(&mut self.notes, table);
     }
+
     // The number of a square of the floor, counted row by row; absent where there is no such square.
     pub fn number(&self, square: Square) -> Option<usize>
         ensures { let v = carriers_view self.now in MatchOption result (OnFloor v.rows v.columns square → ⊥) (λ n. OnFloor v.rows v.columns square × (n ≡ square_number v.columns square) × (n < v.columns * v.rows)) }

@@ -20,11 +20,8 @@ fn place_all(heap: Global, sides: Sides, laying: Laying) -> Result<Vec<Carrier>,
     ensures { IfOk result (λ v. Started laying sides.height sides.width v.items) }
 {
     let mut carriers = Vec::with_capacity(heap, sides.slots())?;
-    // Kept as it is: a chain would have to drop the slots that are not there, and all are.
     for number in 0..sides.slots() {
-        let Some(slot) = sides.slot(number) else {
-            unreachable!();
-        };
+        let slot = sides.slot(number).unwrap();
         carriers.push(Carrier {
             square: laying.square(slot.square()),
             heading: Heading::Stay,
@@ -35,6 +32,7 @@ fn place_all(heap: Global, sides: Sides, laying: Laying) -> Result<Vec<Carrier>,
 
 impl Carriers {
     // On a floor of those sides, laid that way: read the right way round, the deck is new.
+    // Kept as it is: the call asks itself whether two numbers are a floor's sides, so it takes the numbers.
     pub fn start(
         heap: Global,
         height: usize,
