@@ -1,6 +1,7 @@
 // Shows small decks at work: the floor before a move, the answer, and the floor after it.
 //
-// For: seeing what the decks do. Promises: nothing beyond what the decks do. Rests on: grid, deck, roster, board.
+// For: seeing what the decks do. Promises: nothing beyond what the decks do. Rests on: grid, deck, decklists,
+// roster, board; anyhow, for errors.
 #![tactic(auto)]
 
 use board::Board;

@@ -28,7 +28,7 @@ fn write_words(out: &mut [u8], entries: &[u16])
     requires { length out.old ≡ 2 * length entries.now }
     ensures { out.new ≡ words entries.now }
 {
-    // Kept as it is: over out.chunks_exact_mut(2).zip(entries) the proof knows the length of the buffer afterwards, and no byte of it.
+    // Kept as it is: over `out.chunks_exact_mut(2).zip(entries)` the proof knows how long the buffer is afterwards, and no byte.
     for (k, entry) in entries.iter().enumerate() {
         let [high, low] = entry.to_be_bytes();
         out[2 * k] = high;

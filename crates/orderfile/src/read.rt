@@ -71,7 +71,7 @@ fn read_wanted(heap: Global, slots: usize, body: &[u8]) -> Result<AnyRule, Order
     if !all_entries_below(pairs, slots) {
         return Err(OrderFault::BadEntry);
     }
-    // a number record has no kinds
+    // a number record has no kinds; one function asks for memory, whatever the rule
     let (_, wanted) = kept(heap, &[], pairs)?;
     Ok(NumberRule::new(wanted)?.into())
 }
@@ -89,6 +89,7 @@ fn read_kinds(heap: Global, slots: usize, body: &[u8]) -> Result<AnyRule, OrderF
     Ok(KindRule::new(kinds, masks)?.into())
 }
 
+// Kept as it is: a struct of these parameters would be taken apart at once by the function that it is handed to.
 fn read_rule(heap: Global, rule: RuleName, slots: usize, body: &[u8]) -> Result<AnyRule, OrderFault>
     requires { length body.now ≡ entry_size rule * slots }
     ensures { RuleRead rule slots body.now result }

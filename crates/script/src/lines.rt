@@ -21,6 +21,7 @@ fn push_number(line: &mut ArrayString<LONGEST>, number: usize)
 }
 
 // The first line of a script.
+// Kept as it is: with `write!` into the string it stayed open that no write fails, so each piece is pushed.
 fn make_first_line(height: usize, width: usize, length: usize) -> ArrayString<LONGEST>
     ensures { result.bytes ≡ first_line_bytes height width length }
 {
@@ -61,6 +62,7 @@ fn write_line(line: &ArrayString<LONGEST>, out: &mut [u8], at: usize) -> Result<
 }
 
 // Writes the first line of a script from place `at` on, and answers how many bytes it is.
+// Kept as it is: the caller lends its buffer and a place in it, and is answered a refusal where there is no room.
 pub fn first_line(
     out: &mut [u8],
     at: usize,
@@ -74,7 +76,7 @@ pub fn first_line(
 }
 
 // Writes the line of a refusal from place `at` on, and answers how many bytes it is.
-// Kept as it is: the refusals of reading, of decks and of the floor have nothing but their numbers in common.
+// Kept as it is: the caller lends its buffer and a place in it, and a refusal comes as its number, as above.
 pub fn refused_line(out: &mut [u8], at: usize, number: u8) -> Result<usize, FloorFault>
     ensures { Written (refused_line_bytes number) out.old at result out.new }
 {

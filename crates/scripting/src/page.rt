@@ -34,6 +34,7 @@ pub(crate) struct Page {
     pub(crate) used: usize,
 }
 
+// The first line, at the front of the text.
 pub(crate) fn write_first_line(
     text: &mut Vec<u8>,
     sides: Sides,
@@ -44,6 +45,7 @@ pub(crate) fn write_first_line(
     first_line(text, 0, sides.height, sides.width, steps)
 }
 
+// The line of the next step, from a place on.
 pub(crate) fn write_step(floor: &Floor, text: &mut Vec<u8>, at: usize) -> Result<usize, FloorFault>
     ensures { Lined (floor-shown floor.now) text.old.items at result text.new.items }
 {

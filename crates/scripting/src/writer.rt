@@ -40,6 +40,7 @@ pub(crate) struct Pending {
 // Orders once and then steps to the end, and writes each step as a line before it is made.
 #[derive(Drop)]
 pub(crate) struct ScriptWriter<K: Task> {
+    // Kept as it is: the account speaks of the page alone, whose phase is copied, so what is pending stands beside it.
     pending: Option<Pending>,
     pub(crate) page: Page,
     of: PhantomData<K>,
@@ -109,6 +110,7 @@ impl<K: Task> Source<Roster> for ScriptWriter<K> {
         _marks: &[u8],
         answer: Result<usize, FloorFault>,
     ) {
+        // Kept as it is: the account tells an order that is refused from a line without room, so each has an arm of its own.
         match answer {
             Ok(steps) => match write_first_line(&mut self.page.text, self.page.sides, steps) {
                 Ok(count) => {
