@@ -99,10 +99,10 @@ impl Floor {
     pub fn back<D: Deck>(&mut self, deck: &mut D) -> Result<usize, FloorFault>
         ensures { Backed (shown self.old) (D.Deck.view deck.old) result (shown self.new) (D.Deck.view deck.new) }
     {
-        // Kept as it is: by `ok_or(..)?` both exits stayed open, that a step is done and which fault is answered.
-        let Some(step) = self.steps_done.checked_sub(1) else {
-            return Err(FloorFault::NoLastMove);
-        };
+        let step = self
+            .steps_done
+            .checked_sub(1)
+            .ok_or(FloorFault::NoLastMove)?;
         self.move_on(deck, step, Way::Back, step)
     }
 }
