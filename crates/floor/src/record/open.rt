@@ -78,17 +78,11 @@ impl Floor {
         ensures opened { Opened height width (D.Deck.view deck.now) (shown_answer result) }
         ensures every_chain { IfOk result (λ f. EveryChainKeepsItsPromises height width (shown f) (D.Deck.view deck.now)) }
     {
-        // Kept as it is: by `ok_or(..)?` it stayed open that the sides are the numbers, and which fault is answered.
-        let Some(sides) = Sides::new(height, width) else {
-            return Err(FloorFault::BadSides);
-        };
+        let sides = Sides::new(height, width).ok_or(FloorFault::BadSides)?;
         if !is_sized(deck, sides) {
             return Err(FloorFault::WrongDeck);
         }
-        // Kept as it is: by `ok_or(..)?` it stayed open that all rest where they stand, and which fault is answered.
-        let Some(resting) = rest_all(deck, sides) else {
-            return Err(FloorFault::OffSlot);
-        };
+        let resting = rest_all(deck, sides).ok_or(FloorFault::OffSlot)?;
         let routes = resting[..sides.slots()].to_vec(heap)?;
         let stages = Stages::of(&routes);
         Ok(Floor {
