@@ -85,6 +85,7 @@ impl Route {
     }
 
     // The stage's run, seen upright; in a turn there is none, so nowhere to go.
+    // Kept as it is: an `Option` would add a case to the match in `heading`, whose form is fixed.
     fn run(&self, stage: Stage) -> Run
         ensures from { result.from ≡ run_from stage self.now }
         ensures to { result.to ≡ run_to stage self.now }

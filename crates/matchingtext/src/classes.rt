@@ -36,6 +36,7 @@ fn find_classes(table: &TextTable, classes: &mut [usize], twins: &mut [Option<us
     ensures { AlikeColumns table.now.rows.now table.now.count classes.new }
 {
     classes.fill(0);
+    // Kept as it is: the left members are the numbers themselves, and the table lends the row of each.
     for left in 0..table.count {
         twins.fill(None);
         split_by(table.row(left), classes, twins);

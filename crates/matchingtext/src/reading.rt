@@ -13,6 +13,7 @@ fn line_end(text: &[u8]) -> Option<usize>
 }
 
 // The number that up to nine decimal digits write.
+// Kept as it is: `parse` would also take a sign and more than nine digits.
 fn numeral(digits: &[u8]) -> Option<usize>
     ensures { Read digits.now result }
 {
@@ -47,7 +48,7 @@ fn rows_end(text: &[u8], from: usize, n: usize) -> Option<usize>
     ensures { Ends text.now from n result }
 {
     let mut at = from;
-    // Kept as it is: the place goes on only past a row that was found, so an iterator of places would be no plainer.
+    // Kept as it is: the place goes on only past a row that was found: no iterator is plainer. The proof alone names `row`.
     for row in 0..n {
         if !is_row(text, at, n) {
             return None;

@@ -38,10 +38,8 @@ fn first_of<R: Relation>(heap: Global, rel: &R, n: usize) -> Result<Option<Vec<u
         marks: &mut marks,
         work: &mut work,
     };
-    match first_in(rel, &mut mate, &mut tables) {
-        Ok(()) => Ok(Some(mate)),
-        Err(_) => Ok(None),
-    }
+    let found = first_in(rel, &mut mate, &mut tables);
+    Ok(found.ok().map(|()| mate))
 }
 
 // The first perfect matching, by tables that are made for it; none where there is none.

@@ -1,5 +1,5 @@
 -- What the search answers of a rule, and what goals and middle rows make together: the plan of the rule.
-use Rattle.std.proofs.Common.{◌≡◌, ℕ, List, length, refl, ap, ◌∙◌, subst, arith}
+use Rattle.std.proofs.Common.{◌≡◌, ℕ, List, length, Result, Ok, Err, is_ok, true≢false, refl, sym, ap, ◌∙◌, subst, arith}
 use Rattle.grid.specs.declared.sides.Sides.{Sides}
 use Rattle.grid.specs.declared.slot.Slot.{Slot}
 use Rattle.grid.specs.declared.square.Square.{Square}
@@ -11,6 +11,9 @@ use Rattle.matchings.specs.Reaching.{Inj}
 use Rattle.motion.specs.Carrying.{InSlots}
 use Rattle.course.specs.declared.route.Route.{Route}
 use Rattle.course.specs.Routes.{route_at}
+use Rattle.matching.specs.declared.search.Blockers.{Blockers}
+use Rattle.matching.specs.Answers.{Answer, Exactly}
+use Rattle.planning.specs.Assignments.{Blocked}
 use Rattle.planning.specs.Planned.{Planned}
 use Rattle.planning.specs.Theorems.{Shuffled}
 use Rattle.planning.proofs.Slots.{same_slot, in_slots}
@@ -19,6 +22,18 @@ use Rattle.plan.specs.Routes.{plan_on, SameStarts, SameEnds}
 use Rattle.plan.specs.Rows.{Whole, FirstRows}
 use Rattle.plan.specs.Making.{start_square, Assigned}
 use Rattle.plan.proofs.Gives.{in_slots_kept}
+
+-- a search that finds no assignment, whose error is told on as another, tells what blocks the rule
+pub blocked :
+    {T E : Type 0} (v : RuleView) (n : ℕ) (mate members : List ℕ) (r : Result (Unit {0}) Blockers) (told : Result T E) (e : E)
+    → told ≡ Err e
+    → is_ok told ≡ is_ok r
+    → Answer v.admits n mate members r
+    → Exactly v.admits n r
+    → Blocked v n
+blocked v n mate members (Ok _) told e is same answer exactly = absurd (true≢false (sym same ∙ ap is_ok is))
+blocked v n mate members (Err b) told e is same answer exactly =
+    record { none = λ m p. absurd (true≢false (sym (exactly.found m p))); slots = members; many = b.count; blocking = answer }
 
 module _ (s : Sides) (v : RuleView) (a b : List Route) (K : SameStarts a b) (many : length a ≡ slot_count s.height s.width)
     (S : InSlots (plan_on s a) (λ c. (route_at a c).start)) (G : Assigned v (plan_on s b)) where

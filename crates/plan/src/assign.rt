@@ -73,9 +73,7 @@ fn assign_in<R: Rule>(
     ensures kept { Kept tables.old tables.new }
 {
     let admission = Admission::of(rule);
-    if first_matching(&admission, assignment, tables).is_err() {
-        return Err(Unfillable);
-    }
+    first_matching(&admission, assignment, tables).map_err(|_| Unfillable)?;
     set_goals(routes, sides, assignment);
     Ok(())
 }
@@ -95,6 +93,7 @@ pub fn assign<R: Rule>(
     ensures refused { OnErr result (routes.new ≡ routes.old) }
     ensures marks { marks.new ≡ marks.old }
 {
+    // Kept as it is: the search allocates nothing, so its tables are local arrays, here with a place for each slot.
     let mut assignment = [0; GREATEST_SLOTS];
     let mut block = [0; GREATEST_SLOTS];
     let mut entries = [Entry::default(); GREATEST_SLOTS];

@@ -22,6 +22,7 @@ fn lowest(routes: &[Route], row: u8, start: usize, goal: usize) -> usize
     requires some { 0 < waiting_routes routes.now (length routes.now) row start goal }
     ensures { Lowest routes.now row start goal result }
 {
+    // Kept as it is: the place of the least is asked, and the loop keeps it beside the row it is compared by.
     let mut best = 0;
     let mut least = u8::MAX;
     for (c, route) in routes.iter().enumerate() {
@@ -47,6 +48,7 @@ pub fn give_row(routes: &mut [Route], sides: Sides, row: u8, matching: &[usize])
 }
 
 // Nobody is placed: `rows`, which is no row, for each middle row.
+// Kept as it is: one comparison asks whether a carrier waits, and an `Option` would stay in every finished plan.
 pub fn unplace(routes: &mut [Route], rows: u8)
     ensures { Unplaced routes.old routes.new rows }
 {

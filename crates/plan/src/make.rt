@@ -17,6 +17,7 @@ use rules::Rule;
 pub struct Unfillable;
 
 // The plan of the rule for carriers that start where the routes say, into the routes.
+// Kept as it is: sides, routes and marks go side by side, since record and caller lend them for this call alone.
 pub fn make_plan<R: Rule>(
     rule: &R,
     sides: Sides,

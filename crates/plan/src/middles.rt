@@ -62,6 +62,7 @@ pub fn give_middle_rows(routes: &mut [Route], sides: Sides, marks: &mut [u8])
     ensures rows { FirstRows sides routes.new }
     ensures marks { marks.new ≡ marks.old }
 {
+    // Kept as it is: the search allocates nothing, so its tables are local arrays, here with a place for each bay.
     let mut counts = [0; GREATEST_BAY_PAIRS];
     let mut matching = [0; GREATEST_SIDE];
     let mut block = [0; GREATEST_SIDE];

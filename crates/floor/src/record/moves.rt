@@ -22,7 +22,7 @@ use grid::heading::Heading;
 use grid::sides::GREATEST_SLOTS;
 
 // Whether a step of the plan is made or undone.
-// Kept as it is: a closure would be no plainer, since a way also says where the carriers stand before and after.
+// Kept as it is: a closure would be no plainer, since the contracts also say by a way where the carriers stand.
 #[derive(Clone, Copy, PartialEq, Eq, Debug)]
 enum Way {
     On,
@@ -99,9 +99,10 @@ impl Floor {
     pub fn back<D: Deck>(&mut self, deck: &mut D) -> Result<usize, FloorFault>
         ensures { Backed (shown self.old) (D.Deck.view deck.old) result (shown self.new) (D.Deck.view deck.new) }
     {
-        let Some(step) = self.steps_done.checked_sub(1) else {
-            return Err(FloorFault::NoLastMove);
-        };
+        let step = self
+            .steps_done
+            .checked_sub(1)
+            .ok_or(FloorFault::NoLastMove)?;
         self.move_on(deck, step, Way::Back, step)
     }
 }

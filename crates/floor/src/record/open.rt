@@ -52,6 +52,7 @@ fn rest_in(slot: Slot) -> Route
 }
 
 // Every carrier at rest in the slot where it stands; absent where one stands on none.
+// Kept as it is: all slots are looked at before memory is asked for, so they stand in an array of the largest floor.
 fn rest_all<D: Deck>(deck: &D, sides: Sides) -> Option<[Route; GREATEST_SLOTS]>
     requires { Sized sides.height sides.width (D.Deck.view deck.now) }
     ensures { MatchOption result (OnSlots sides.height sides.width (D.Deck.view deck.now) → ⊥) (AllRest sides.height sides.width (D.Deck.view deck.now) (slot_count sides.height sides.width)) }
@@ -77,15 +78,11 @@ impl Floor {
         ensures opened { Opened height width (D.Deck.view deck.now) (shown_answer result) }
         ensures every_chain { IfOk result (λ f. EveryChainKeepsItsPromises height width (shown f) (D.Deck.view deck.now)) }
     {
-        let Some(sides) = Sides::new(height, width) else {
-            return Err(FloorFault::BadSides);
-        };
+        let sides = Sides::new(height, width).ok_or(FloorFault::BadSides)?;
         if !is_sized(deck, sides) {
             return Err(FloorFault::WrongDeck);
         }
-        let Some(resting) = rest_all(deck, sides) else {
-            return Err(FloorFault::OffSlot);
-        };
+        let resting = rest_all(deck, sides).ok_or(FloorFault::OffSlot)?;
         let routes = resting[..sides.slots()].to_vec(heap)?;
         let stages = Stages::of(&routes);
         Ok(Floor {

@@ -126,6 +126,7 @@ impl Floor {
         let mut all = [NOWHERE; GREATEST_SLOTS];
         let routes = &mut all[..self.sides.slots()];
         write_starts(&self.routes, self.steps_done, routes);
+        // Kept as it is: by `map_err(..)?` both exits stayed open, at each of which the plan's answer was to be taken out anew.
         let Ok(()) = make_plan(rule, self.sides, routes, marks) else {
             return Err(FloorFault::Unfillable);
         };

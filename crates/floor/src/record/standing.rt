@@ -23,6 +23,7 @@ pub(super) fn is_sized<D: Deck>(deck: &D, sides: Sides) -> bool
 }
 
 // Whether each carrier is where its route has it at a moment.
+// Kept as it is: routes and moment are asked apart from the record, so that the proof of the loop needs no record.
 fn are_at<D: Deck>(deck: &D, routes: &[Route], moment: Moment) -> bool
     requires { (D.Deck.view deck.now).carriers ≡ length routes.now }
     ensures { (h w : ℕ) → Tells result (Placed (D.Deck.view deck.now) (length routes.now) (place_when moment (plan_of h w routes.now))) }
