@@ -48,12 +48,13 @@ rest_at xs a k d h =
     (omega arith, ap (λ ys. get_or ys k d) e ∙ get_or-drop a xs k d)
 
 -- the member of an entry, where the first c entries are gone over from the place a on
-pub after_at : (es f : List Entry) (c a k : ℕ) → f ≡ take c es → c ≤ length es → k < length (take (length f - a) (drop a f))
-    → (a + k < c) × ((get_or (take (length f - a) (drop a f)) k empty).member ≡ map member_of es ! (a + k))
-after_at es f c a k is fits h =
-    let r = rest_at f a k empty h in
-    let s = first_at es f c (a + k) is fits r.0 in
-    (s.0, ap member_of r.1 ∙ s.1)
+pub after_at : (es f : List Entry) (c a k : ℕ) (d : Entry) → f ≡ take c es → c ≤ length es → k < length (take (length f - a) (drop a f))
+    → (a + k < c) × ((get_or (take (length f - a) (drop a f)) k d).member ≡ map member_of es ! (a + k))
+after_at es f c a k d is fits h =
+    let r = rest_at f a k d h in
+    let long : length f ≡ c = ap length is ∙ length-take-le c es fits in
+    let low : a + k < c = omega arith in
+    (low, ap member_of r.1 ∙ ap (λ (xs : List Entry). (get_or xs (a + k) d).member) is ∙ ap member_of (get_or-take c es (a + k) d low) ∙ sym (get_or-map member_of es (a + k) d 0 (omega arith)))
 
 -- another member leaves the parents
 pub parent_kept : (es : List Entry) (i m : ℕ) → i < length es

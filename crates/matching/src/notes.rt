@@ -7,6 +7,7 @@ use crate::relation::Relation;
 // Which classes of right members were visited, in a lent byte for each class that is told apart.
 #[derive(Drop)]
 pub struct Notes<'a> {
+    // Kept as it is: bytes, as the marks are, so that one vocabulary (`Clear`, `Added`) serves both.
     seen: &'a mut [u8],
 }
 

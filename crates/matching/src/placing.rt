@@ -33,6 +33,7 @@ fn choose<R: Relation>(
     requires below { (k : ℕ) → k < count → members_of work.now ! k < length mate.now }
     ensures { Chosen (loose (R.Relation.allowed quest.now.rel.now) quest.now.wild quest.now.left) mate.now (members_of work.now) count result }
 {
+    // Kept as it is: the place of the least is asked, so min_by_key would carry place and member along, and is no plainer.
     let mut best = None;
     let mut least = mate.len();
     for (k, entry) in work.first(count).iter().enumerate() {

@@ -5,6 +5,7 @@ use crate::relation::Relation;
 
 // What the search for one left member goes by: in the relation members from `wild` on, not settled yet, allow everything,
 // those below `fixed` keep what they have, and `left` is to get its right member.
+// Kept as it is: `Seated` stands in several contracts, since a type around the lent `mate` makes each read and swap a method.
 #[derive(Drop)]
 pub struct Quest<'a, R: Relation> {
     pub rel: &'a R,

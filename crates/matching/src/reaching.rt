@@ -19,6 +19,7 @@ pub fn line_up<R: Relation>(quest: &Quest<R>, block: &[usize], work: &mut WorkLi
     let Quest { fixed, left, .. } = *quest;
     work.put(0, left);
     let mut count = 1;
+    // Kept as it is: with `enumerate().skip(fixed)` it stayed open that the places from `fixed` on come one after the other.
     for (k, label) in block[fixed..].iter().enumerate() {
         let l = fixed + k;
         if l != left && *label == block[left] {
@@ -83,12 +84,10 @@ fn find<R: Relation>(
     requires below { (k : ℕ) → k < to → members_of work.now ! k < length mate.now }
     ensures { Joins (loose (R.Relation.allowed quest.now.rel.now) quest.now.wild goal) mate.now (members_of work.now) to result }
 {
-    for (k, entry) in work.first(to)[from..].iter().enumerate() {
-        if quest.may(goal, mate[entry.member]) {
-            return Some(from + k);
-        }
-    }
-    None
+    work.first(to)[from..]
+        .iter()
+        .position(|entry| quest.may(goal, mate[entry.member]))
+        .map(|k| from + k)
 }
 
 // Those that come to `left` by such steps, `left` first, until `goal` is among them; the right members that they have are

@@ -51,6 +51,7 @@ fn take_free<R: Relation>(rel: &R, next: usize, mate: &mut [usize]) -> bool
     requires held { Held (loose (R.Relation.allowed rel.now) next) (length mate.old) mate.old }
     ensures { MatchBool result (Held (loose (R.Relation.allowed rel.now) (next + 1)) (length mate.old) mate.new) (mate.new ≡ mate.old) }
 {
+    // Kept as it is: the place of the least is asked, so min_by_key would carry place and right member along, and is no plainer.
     let mut best = None;
     let mut least = mate.len();
     for (k, right) in mate[next..].iter().enumerate() {
@@ -109,12 +110,9 @@ fn has_least<R: Relation>(rel: &R, left: usize, mate: &[usize], block: &[usize])
     ensures { MatchBool result (HasLeast (R.Relation.allowed rel.now) (length mate.now) left block.now mate.now) (Unit {0}) }
 {
     let held = mate[left];
-    for (right, label) in mate[left + 1..].iter().zip(&block[left + 1..]) {
-        if *right < held && *label == block[left] && rel.allows(left, *right) {
-            return false;
-        }
-    }
-    true
+    !mate[left + 1..].iter().zip(&block[left + 1..]).any(|(right, label)| *right < held
+        && *label == block[left]
+        && rel.allows(left, *right))
 }
 
 // Of a perfect matching the first in dictionary order.

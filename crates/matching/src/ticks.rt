@@ -2,7 +2,7 @@ ghost use Rattle.std.specs.Prelude.{◌≡◌, ◌≤◌, length};
 ghost use Rattle.matchings.specs.Reaching.{Clear, Beyond};
 
 // The caller's marks while right members are ticked off in the first `count` of them: let go, it clears those.
-// Kept as it is: the guard holds all the marks that are lent, of which only the first are the search's.
+// Kept as it is: over just the first marks it stayed open in `place` that they come back to the tables as the guard leaves them.
 pub struct Ticks<'a> {
     pub marks: &'a mut [u8],
     pub count: usize,

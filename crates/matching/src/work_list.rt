@@ -10,7 +10,7 @@ pub struct Entry {
     pub parent: usize,
 }
 
-// The left members that the search has at hand, by their places: 2n numbers for n members.
+// The left members that the search has at hand, by their places: n entries for n members, 2n numbers together.
 #[derive(Drop)]
 pub struct WorkList<'a> {
     entries: &'a mut [Entry],
@@ -27,11 +27,11 @@ impl<'a> WorkList<'a> {
 
 impl WorkList<'_> {
     // The member at a place.
-    pub fn member(&self, at: usize) -> usize
-        requires { at < places self.now }
-        ensures { result ≡ members_of self.now ! at }
+    pub fn member(&self, place: usize) -> usize
+        requires { place < places self.now }
+        ensures { result ≡ members_of self.now ! place }
     {
-        self.entries[at].member
+        self.entries[place].member
     }
 
     // The entries at the first `count` places.
