@@ -12,7 +12,9 @@ pub struct Notes<'a> {
 }
 
 impl<'a> Notes<'a> {
-    pub fn over(seen: &'a mut [u8]) -> Notes<'a> {
+    pub fn over(seen: &'a mut [u8]) -> Notes<'a>
+        ensures { result.seen.now ≡ seen.old }
+    {
         Notes { seen }
     }
 }

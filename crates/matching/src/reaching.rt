@@ -19,7 +19,6 @@ pub fn line_up<R: Relation>(quest: &Quest<R>, block: &[usize], work: &mut WorkLi
     let Quest { fixed, left, .. } = *quest;
     work.put(0, left);
     let mut count = 1;
-    // Kept as it is: with `enumerate().skip(fixed)` it stayed open that the places from `fixed` on come one after the other.
     for (k, label) in block[fixed..].iter().enumerate() {
         let l = fixed + k;
         if l != left && *label == block[left] {
