@@ -54,7 +54,7 @@ def functions(file, text):
         while depth:
             depth += {"(": 1, ")": -1}.get(text[k], 0)
             k += 1
-        params = [p.strip() for p in split_top(text[m.end():k - 1]) if p.strip()]
+        params = [p.strip() for p in split_outside(text[m.end():k - 1]) if p.strip()]
         clauses, result = [], ""
         while text[k] not in "{;":
             c = re.match(r"\s*(requires|ensures)\s*(\w*)\s*\{", text[k:])
@@ -70,10 +70,11 @@ def functions(file, text):
         yield Function(m.group(1), file, text.count("\n", 0, m.start()) + 1, params, " ".join(result.split()), clauses, body)
 
 
-def split_top(text):
+def split_outside(text, opening="<([", closing=">)]"):
+    """The parts of a text between commas that stand in no brackets."""
     depth, part = 0, ""
     for c in text:
-        depth += {"<": 1, "(": 1, "[": 1, ">": -1, ")": -1, "]": -1}.get(c, 0)
+        depth += (c in opening) - (c in closing)
         if c == "," and depth == 0:
             yield part
             part = ""
@@ -93,21 +94,9 @@ def two_cased_enums(files, _):
     for file, text in files:
         for m in re.finditer(r"\benum (\w+)(?:<[^{]*>)? \{", text):
             body = re.sub(r"//[^\n]*", "", text[m.end():closing(text, m.end() - 1) - 1])
-            cases = [c.strip() for c in split_braces(body) if c.strip()]
+            cases = [c.strip() for c in split_outside(body, "{(", "})") if c.strip()]
             if len(cases) <= 2:
                 yield f"{file}:{text.count(chr(10), 0, m.start()) + 1}: {m.group(1)}: {' | '.join(' '.join(c.split()) for c in cases)}"
-
-
-def split_braces(text):
-    depth, part = 0, ""
-    for c in text:
-        depth += {"{": 1, "(": 1, "}": -1, ")": -1}.get(c, 0)
-        if c == "," and depth == 0:
-            yield part
-            part = ""
-        else:
-            part += c
-    yield part
 
 
 def flags_beside(_, fns):
@@ -244,7 +233,7 @@ def beside(files, fns):
     for file, text in files:
         for m in re.finditer(r"\bstruct (\w+)(?:<[^{(]*>)? \{", text):
             body = re.sub(r"//[^\n]*", "", text[m.end():closing(text, m.end() - 1) - 1])
-            fields = [" ".join(x.split()) for x in split_braces(body) if x.strip() and not x.strip().startswith("ghost")]
+            fields = [" ".join(x.split()) for x in split_outside(body, "{(", "})") if x.strip() and not x.strip().startswith("ghost")]
             lists = [x for x in fields if re.search(r"Vec<|\[", x)]
             counts = [x for x in fields if re.search(r"\b(len|used|count|from|to|bays|at)\b.*: usize", x)]
             if lists and counts or len(lists) > 1 or len(counts) > 1:
