@@ -3,7 +3,7 @@ use Rattle.std.proofs.Common.{◌≡◌, ℕ, zero, suc, ◌+◌, ◌*◌, ◌^�
 use Rattle.std.proofs.lemmas.List.{take_at, length-take-le}
 use Rattle.std.proofs.lemmas.List.FromFn.{length-map-range_with_len}
 use Rattle.motion.specs.Plans.{Plan}
-use Rattle.script.specs.Lines.{first_line_bytes}
+use Rattle.script.specs.Lines.{first_line_bytes, refused_line_bytes}
 use Rattle.script.specs.Pasting.{Pasted}
 use Rattle.std.proofs.lemmas.Fmt.{length-decimal-le}
 use Rattle.scripting.specs.Scripts.{step_line, step_lines}
@@ -45,3 +45,6 @@ short n fits = length-decimal-le 20 n (omega arith) (omega arith) fits
 
 pub first_line_short : (h w n : ℕ) → h < 2 ^ 64 → w < 2 ^ 64 → n < 2 ^ 64 → length (first_line_bytes h w n) ≤ 80
 first_line_short h w n fh fw fn = simp length-append (omega (arith, short h fh, short w fw, short n fn))
+
+pub refused_line_short : (n : ℕ) → n < 2 ^ 64 → length (refused_line_bytes n) ≤ 80
+refused_line_short n fits = simp length-append (omega (arith, short n fits))

@@ -3,6 +3,7 @@ ghost use Rattle.roster.specs.Rosters.{roster_view};
 ghost use Rattle.floor.specs.Shown.{shown as floor-shown};
 ghost use Rattle.orderfile.specs.Records.{GoodOrder};
 ghost use Rattle.orderfile.specs.Orders.{shown as order-shown};
+ghost use Rattle.script.specs.Lines.{refused_line_bytes};
 ghost use Rattle.scripting.specs.Scripts.{ScriptFor, ScriptOf};
 ghost use Rattle.scripting.specs.Theorems.{ScriptIsFixed};
 ghost use Rattle.scripting.specs.Refusals.{answer_text};
@@ -12,14 +13,14 @@ ghost use Rattle.scripting.specs.Writing.{page_account};
 use crate::page::{Page, Phase};
 use crate::refusal::Refusal;
 use crate::writer::{ScriptWriter, Task};
-use arrayvec::ArrayString;
+use arrayvec::ArrayVec;
 use chain::fault::FloorFault;
 use floor::record::Floor;
 use motion::longest_plan;
 use orderfile::order::Order;
 use orderfile::read::read;
 use roster::Roster;
-use script::lines::{LONGEST, make_refused_line};
+use script::lines::{LONGEST, refused_line};
 use serve::serve;
 use std::alloc::Global;
 use std::marker::Brand;
@@ -30,7 +31,7 @@ use std::marker::Brand;
 #[derive(Drop)]
 pub enum Script {
     Steps(Vec<u8>),
-    Refused(ArrayString<LONGEST>),
+    Refused(ArrayVec<u8, LONGEST>),
 }
 
 impl Script {
@@ -41,7 +42,7 @@ impl Script {
     {
         match steps_of_record(heap, bytes) {
             Ok(text) => Script::Steps(text),
-            Err(refusal) => Script::Refused(make_refused_line(refusal.number())),
+            Err(refusal) => Script::Refused(refusal_text(refusal.number())),
         }
     }
 
@@ -50,9 +51,22 @@ impl Script {
     {
         match self {
             Script::Steps(text) => text.as_slice(),
-            Script::Refused(line) => line.as_str().as_bytes(),
+            Script::Refused(line) => line.as_slice(),
         }
     }
+}
+
+// The line of the refusal with this number.
+fn refusal_text(number: u8) -> ArrayVec<u8, LONGEST>
+    ensures { result.items ≡ refused_line_bytes number }
+{
+    let mut line = ArrayVec::from([0; LONGEST]);
+    match refused_line(&mut line, 0, number) {
+        Ok(count) => line.truncate(count),
+        // there is room for it
+        Err(_) => line.clear(),
+    }
+    line
 }
 
 fn steps_of_record(heap: Global, bytes: &[u8]) -> Result<Vec<u8>, Refusal>
