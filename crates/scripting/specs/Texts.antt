@@ -5,4 +5,4 @@ use Rattle.scripting.specs.declared.scripts.Script.TheVariants.{Steps, Refused}
 
 abbrev pub script_text : Script → List ℕ
 script_text (Steps text) = vec_items text
-script_text (Refused line) = line.items
+script_text (Refused line) = line.bytes

@@ -13,7 +13,7 @@ ghost use Rattle.scripting.specs.Writing.{page_account};
 use crate::page::{Page, Phase};
 use crate::refusal::Refusal;
 use crate::writer::{ScriptWriter, Task};
-use arrayvec::ArrayVec;
+use arrayvec::ArrayString;
 use chain::fault::FloorFault;
 use floor::record::Floor;
 use motion::longest_plan;
@@ -24,6 +24,7 @@ use script::lines::{LONGEST, refused_line};
 use serve::serve;
 use std::alloc::Global;
 use std::marker::Brand;
+use std::str;
 
 // A script: the first line and the lines of the steps, or the line of a refusal. That stands in fixed room, so that want of
 // memory can be told without memory.
@@ -31,7 +32,7 @@ use std::marker::Brand;
 #[derive(Drop)]
 pub enum Script {
     Steps(Vec<u8>),
-    Refused(ArrayVec<u8, LONGEST>),
+    Refused(ArrayString<LONGEST>),
 }
 
 impl Script {
@@ -51,21 +52,19 @@ impl Script {
     {
         match self {
             Script::Steps(text) => text.as_slice(),
-            Script::Refused(line) => line.as_slice(),
+            Script::Refused(line) => line.as_str().as_bytes(),
         }
     }
 }
 
-// The line of the refusal with this number.
-fn refusal_text(number: u8) -> ArrayVec<u8, LONGEST>
-    ensures { result.items ≡ refused_line_bytes number }
+// The line of the refusal with this number, as its call writes it.
+fn refusal_text(number: u8) -> ArrayString<LONGEST>
+    ensures { result.bytes ≡ refused_line_bytes number }
 {
-    let mut line = ArrayVec::from([0; LONGEST]);
-    match refused_line(&mut line, 0, number) {
-        Ok(count) => line.truncate(count),
-        // there is room for it
-        Err(_) => line.clear(),
-    }
+    let mut bytes = [0; LONGEST];
+    let count = refused_line(&mut bytes, 0, number).unwrap();
+    let mut line = ArrayString::new();
+    line.push_str(str::from_utf8(&bytes[..count]).unwrap());
     line
 }
 
