@@ -4,6 +4,7 @@
 // roster, board; anyhow, for errors.
 #![tactic(auto)]
 
+use anyhow::anyhow;
 use board::Board;
 use deck::Deck;
 use deck::drive::drive;
@@ -24,10 +25,11 @@ fn mark<D: Deck>(deck: &D, square: Square) -> char {
 
 fn show<D: Deck>(rt: &HostRuntime, deck: &D) -> anyhow::Result<()> {
     for row in 0..deck.rows() {
-        let line: String = (0..deck.columns())
-            .map(|column| mark(deck, Square { row, column }))
-            .collect(rt.alloc())?;
-        println!(rt; "{line}")?;
+        // mark by mark, so that showing a deck asks for no memory
+        for column in 0..deck.columns() {
+            rt.print(mark(deck, Square { row, column }))?;
+        }
+        rt.println("")?;
     }
     Ok(())
 }
@@ -62,14 +64,14 @@ fn tour<D: Deck>(rt: &HostRuntime, deck: &mut D, name: &str) -> anyhow::Result<(
 }
 
 fn rosters(rt: &HostRuntime) -> anyhow::Result<()> {
-    let mut upright = Roster::upright(rt.alloc(), 1, 1)?;
+    let mut upright = Roster::upright(rt.alloc(), 1, 1).map_err(|_| anyhow!("no roster"))?;
     tour(rt, &mut upright, "roster")?;
-    let lying = Roster::lying(rt.alloc(), 1, 1)?;
+    let lying = Roster::lying(rt.alloc(), 1, 1).map_err(|_| anyhow!("no roster"))?;
     tour(rt, &mut Turned::over(lying), "turned over a lying roster")
 }
 
 fn boards(rt: &HostRuntime) -> anyhow::Result<()> {
-    let mut upright = Board::upright(rt.alloc(), 1, 1)?;
+    let mut upright = Board::upright(rt.alloc(), 1, 1).map_err(|_| anyhow!("no board"))?;
     tour(rt, &mut upright, "board")?;
     upright.open_contact();
     rt.println("== board, its contact open")?;
@@ -77,7 +79,7 @@ fn boards(rt: &HostRuntime) -> anyhow::Result<()> {
     upright.close_contact();
     rt.println("== board, its contact closed again")?;
     attempt(rt, &mut upright, "0 up", &[Heading::Up])?;
-    let lying = Board::lying(rt.alloc(), 1, 1)?;
+    let lying = Board::lying(rt.alloc(), 1, 1).map_err(|_| anyhow!("no board"))?;
     tour(rt, &mut Turned::over(lying), "turned over a lying board")
 }
 

@@ -1,19 +1,18 @@
 -- A floor in which every carrier rests where it stands is as a new record is to be.
-use Rattle.std.proofs.Common.{◌≡◌, ℕ, ◌≤◌, List, ◌++◌, length, take, sym, refl, ap, ◌∙◌, subst, arith, get_or-take}
-use Rattle.std.proofs.lemmas.List.{get_or_append_left}
+use Rattle.std.proofs.Common.{◌≡◌, ℕ, List, length, refl, ap, ◌∙◌, subst}
 use Rattle.grid.specs.declared.sides.Sides.{Sides}
 use Rattle.grid.specs.Sides.{slot_count}
 use Rattle.deck.specs.Decks.{DeckView, Sound}
 use Rattle.motion.specs.Carrying.{Good}
 use Rattle.course.specs.declared.route.Route.{Route}
 use Rattle.course.specs.declared.stage.Stages.{Stages}
-use Rattle.course.specs.Routes.{nowhere, route_at, plan_of}
+use Rattle.course.specs.Routes.{route_at, plan_of}
 use Rattle.course.specs.Stages.{Staged, total_steps}
 use Rattle.course.proofs.Courses.{staged_steps}
 use Rattle.chain.specs.Floors.{FloorView, Sized}
 use Rattle.chain.specs.Calls.{OnSlots, Opening}
 use Rattle.chain.proofs.Fitting.{opened_good, opened_steps}
-use Rattle.floor.specs.Resting.{Rests, AllRest}
+use Rattle.floor.specs.Resting.{AllRest}
 
 -- the sides that were asked for
 pub at_sides : (s : Sides) (h w : ℕ) → (s.height ≡ h) × (s.width ≡ w) → (P : ℕ → ℕ → Type 0) → P s.height s.width → P h w
@@ -51,20 +50,3 @@ module _ (h w : ℕ) (v : DeckView) (routes : List Route) (sized : Sized h w v) 
 
 pub on_slots : (h w : ℕ) (v : DeckView) (routes : List Route) → AllRest h w v (slot_count h w) routes → OnSlots h w v
 on_slots h w v routes all c l = ((route_at routes c).start, (all c l).stands)
-
--- the first of a list stay the first where more follow
-pub front_rests :
-    (h w : ℕ) (v : DeckView) (n : ℕ) (routes more : List Route)
-    → n ≤ length routes
-    → AllRest h w v n routes
-    → AllRest h w v n (routes ++ more)
-front_rests h w v n routes more room all c l =
-    subst (Rests h w v c) (sym (get_or_append_left routes more nowhere c (omega arith))) (all c l)
-
-pub taken_rest :
-    (h w : ℕ) (v : DeckView) (n m : ℕ) (routes : List Route)
-    → m ≡ n
-    → AllRest h w v n routes
-    → AllRest h w v n (take m routes)
-taken_rest h w v n m routes same all c l =
-    subst (Rests h w v c) (sym (get_or-take m routes c nowhere (omega arith))) (all c l)

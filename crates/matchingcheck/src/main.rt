@@ -38,15 +38,9 @@ fn list(number: usize, n: usize) -> [usize; MOST]
 
 // Whether the left members have right members of their own that they allow.
 fn is_perfect(cells: &[u8], n: usize, rights: &[usize]) -> bool {
-    let allowed = cells
-        .chunks(n.saturating_add(1))
-        .zip(rights)
-        .all(|(row, right)| row.get(*right) == Some(&b'1'));
-    let apart = rights.iter().enumerate().all(|(l, right)| rights
-        .iter()
-        .take(l)
-        .all(|other| *other != *right));
-    allowed && apart
+    let mut rows = cells.chunks(n.saturating_add(1)).zip(rights).enumerate();
+    rows.all(|(l, (row, right))| row.get(*right) == Some(&b'1')
+        && rights.iter().take(l).all(|other| *other != *right))
 }
 
 // The first perfect matching, by trying all lists.

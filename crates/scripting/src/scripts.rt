@@ -3,6 +3,7 @@ ghost use Rattle.roster.specs.Rosters.{roster_view};
 ghost use Rattle.floor.specs.Shown.{shown as floor-shown};
 ghost use Rattle.orderfile.specs.Records.{GoodOrder};
 ghost use Rattle.orderfile.specs.Orders.{shown as order-shown};
+ghost use Rattle.script.specs.Lines.{refused_line_bytes};
 ghost use Rattle.scripting.specs.Scripts.{ScriptFor, ScriptOf};
 ghost use Rattle.scripting.specs.Theorems.{ScriptIsFixed};
 ghost use Rattle.scripting.specs.Refusals.{answer_text};
@@ -19,10 +20,11 @@ use motion::longest_plan;
 use orderfile::order::Order;
 use orderfile::read::read;
 use roster::Roster;
-use script::lines::{LONGEST, make_refused_line};
+use script::lines::{LONGEST, refused_line};
 use serve::serve;
 use std::alloc::Global;
 use std::marker::Brand;
+use std::str;
 
 // A script: the first line and the lines of the steps, or the line of a refusal. That stands in fixed room, so that want of
 // memory can be told without memory.
@@ -41,7 +43,7 @@ impl Script {
     {
         match steps_of_record(heap, bytes) {
             Ok(text) => Script::Steps(text),
-            Err(refusal) => Script::Refused(make_refused_line(refusal.number())),
+            Err(refusal) => Script::Refused(refusal_text(refusal.number())),
         }
     }
 
@@ -53,6 +55,17 @@ impl Script {
             Script::Refused(line) => line.as_str().as_bytes(),
         }
     }
+}
+
+// The line of the refusal with this number, as its call writes it.
+fn refusal_text(number: u8) -> ArrayString<LONGEST>
+    ensures { result.bytes ≡ refused_line_bytes number }
+{
+    let mut bytes = [0; LONGEST];
+    let count = refused_line(&mut bytes, 0, number).unwrap();
+    let mut line = ArrayString::new();
+    line.push_str(str::from_utf8(&bytes[..count]).unwrap());
+    line
 }
 
 fn steps_of_record(heap: Global, bytes: &[u8]) -> Result<Vec<u8>, Refusal>

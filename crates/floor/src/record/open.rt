@@ -1,5 +1,6 @@
 // Opening a floor over a deck.
-ghost use Rattle.std.specs.Prelude.{◌≡◌, ◌<◌, IfOk, MatchOption};
+ghost use Rattle.std.specs.Prelude.{◌≡◌, ◌<◌, length, IfOk, MatchOption, MatchResult};
+ghost use Rattle.chain.specs.declared.fault.FloorFault.TheVariants.{OffSlot};
 ghost use Rattle.grid.specs.declared.slot.Slot.{Slot as AnySlot};
 ghost use Rattle.grid.specs.Sides.{slot_count};
 ghost use Rattle.chain.specs.Floors.{Sized};
@@ -51,18 +52,19 @@ fn rest_in(slot: Slot) -> Route
     }
 }
 
-// Every carrier at rest in the slot where it stands; absent where one stands on none.
-// Kept as it is: all slots are looked at before memory is asked for, so they stand in an array of the largest floor.
-fn rest_all<D: Deck>(deck: &D, sides: Sides) -> Option<[Route; GREATEST_SLOTS]>
-    requires { Sized sides.height sides.width (D.Deck.view deck.now) }
-    ensures { MatchOption result (OnSlots sides.height sides.width (D.Deck.view deck.now) → ⊥) (AllRest sides.height sides.width (D.Deck.view deck.now) (slot_count sides.height sides.width)) }
+// Lets every carrier rest in the slot where it stands; refused where one stands on none.
+// Kept as it is: all slots are looked at before memory is asked for, so they stand in an array of the largest floor, lent to be
+// written in place: handed out, it is copied whole, also for the smallest floor.
+fn rest_all<D: Deck>(deck: &D, sides: Sides, routes: &mut [Route]) -> Result<(), FloorFault>
+    requires sized { Sized sides.height sides.width (D.Deck.view deck.now) }
+    requires size { length routes.old ≡ slot_count sides.height sides.width }
+    ensures { MatchResult result (λ _. AllRest sides.height sides.width (D.Deck.view deck.now) (slot_count sides.height sides.width) routes.new) (λ fault. (fault ≡ OffSlot) × (OnSlots sides.height sides.width (D.Deck.view deck.now) → ⊥)) }
 {
-    let mut all = [NOWHERE; GREATEST_SLOTS];
-    let routes = &mut all[..sides.slots()];
     for (carrier, route) in routes.iter_mut().enumerate() {
-        *route = rest_in(slot_of(deck, sides, carrier)?);
+        let slot = slot_of(deck, sides, carrier).ok_or(FloorFault::OffSlot)?;
+        *route = rest_in(slot);
     }
-    Some(all)
+    Ok(())
 }
 
 impl Floor {
@@ -82,8 +84,10 @@ impl Floor {
         if !is_sized(deck, sides) {
             return Err(FloorFault::WrongDeck);
         }
-        let resting = rest_all(deck, sides).ok_or(FloorFault::OffSlot)?;
-        let routes = resting[..sides.slots()].to_vec(heap)?;
+        let mut all = [NOWHERE; GREATEST_SLOTS];
+        let resting = &mut all[..sides.slots()];
+        rest_all(deck, sides, resting)?;
+        let routes = resting.to_vec(heap)?;
         let stages = Stages::of(&routes);
         Ok(Floor {
             sides,

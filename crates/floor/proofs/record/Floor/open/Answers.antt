@@ -13,7 +13,7 @@ use Rattle.chain.specs.Calls.{OpenRefused, Opening}
 use Rattle.chain.proofs.Keeping.{every_chain}
 use Rattle.floor.specs.Resting.{AllRest}
 use Rattle.floor.proofs.Records.{few_slots}
-use Rattle.floor.proofs.Openings.{taken_rest, at_sides, on_slots, rest_good, rest_opening}
+use Rattle.floor.proofs.Openings.{at_sides, on_slots, rest_good, rest_opening}
 use Rattle.floor.proofs.record.Floor.open.Goals as goal
 
 pub returns-in_err-sides-clause-opened : goal.returns-in_err-sides-clause-opened
@@ -33,18 +33,15 @@ returns-then-not-is_sized-clause-opened g c =
     at_sides s c.args.height c.args.width (MatchOption-at_some _ _ _ c.in_ok-sides.ensures.ok_part c.new.ensures) (λ h w. OpenRefused h w v WrongDeck)
     (OpenRefused.wrong_deck (s.tall, s.wide) c.if-not-is_sized.ensures)
 
-pub returns-in_err-resting-clause-opened : goal.returns-in_err-resting-clause-opened
-returns-in_err-resting-clause-opened g c =
+pub returns-in_err-rest_all-clause-opened : goal.returns-in_err-rest_all-clause-opened
+returns-in_err-rest_all-clause-opened g c =
     let s = c.in_ok-sides.sides in
     let v = g.D.Deck.view c.args.deck.now in
-    let p = err_from_is_err_and c.from_residual-in_err-resting.result c.from_residual-in_err-resting.ensures.1 in
-    let e = c.in_err-resting.ensures in
-    let refused = OpenRefused c.args.height c.args.width v in
-    rw (p.1, p.2)
-    (subst (λ (r : Result (List Route) FloorFault). IfErr r refused) (sym e.value)
-    (subst (λ (o : Option (List Route)). IfErr (ok_or o OffSlot) refused) (sym e.ok_part)
+    let p = err_from_is_err_and c.from_residual-in_err-rest_all.result c.from_residual-in_err-rest_all.ensures.1 in
+    let why = c.in_err-rest_all.ensures in
+    rw (p.1, p.2, why.0)
     (at_sides s c.args.height c.args.width (MatchOption-at_some _ _ _ c.in_ok-sides.ensures.ok_part c.new.ensures) (λ h w. OpenRefused h w v OffSlot)
-    (OpenRefused.off_slot (s.tall, s.wide) c.if-not-is_sized.ensures (MatchOption-at_none _ _ e.ok_part c.rest_all.ensures)))))
+    (OpenRefused.off_slot (s.tall, s.wide) c.if-not-is_sized.ensures why.1))
 
 pub returns-in_err-routes-clause-opened : goal.returns-in_err-routes-clause-opened
 returns-in_err-routes-clause-opened g c =
@@ -54,7 +51,7 @@ returns-in_err-routes-clause-opened g c =
     rw (p.1, p.2)
     (at_sides s c.args.height c.args.width (MatchOption-at_some _ _ _ c.in_ok-sides.ensures.ok_part c.new.ensures) (λ h w. OpenRefused h w v NoMemory)
     (OpenRefused.no_memory (s.tall, s.wide) c.if-not-is_sized.ensures
-    (on_slots s.height s.width v c.in_ok-resting.resting (MatchOption-at_some _ _ _ c.in_ok-resting.ensures.ok_part c.rest_all.ensures))))
+    (on_slots s.height s.width v c.rest_all.new.routes c.in_ok-rest_all.ensures)))
 
 pub invariant_of-result : goal.invariant_of-result
 invariant_of-result g c =
@@ -64,9 +61,8 @@ invariant_of-result g c =
     let few = few_slots s.height s.width (s.tall, s.wide) in
     let items = vec_items c.in_ok-routes.routes in
     let same = c.in_ok-routes.ensures.items_if_clones_equal (λ x y e. e) in
-    let long : length items ≡ n = ap length same ∙ simp length-take (omega (arith, few)) in
-    let all : AllRest s.height s.width v n items =
-    subst (AllRest s.height s.width v n) (sym same) (taken_rest s.height s.width v n _ _ c.slots.ensures (MatchOption-at_some _ _ _ c.in_ok-resting.ensures.ok_part c.rest_all.ensures)) in
+    let long : length items ≡ n = ap length same ∙ c.rest_all.auto.routes ∙ simp length-take (omega (arith, few)) in
+    let all : AllRest s.height s.width v n items = subst (AllRest s.height s.width v n) (sym same) c.in_ok-rest_all.ensures in
     let staged : Staged (plan_of s.height s.width items) c.of-stages.result =
     subst (λ (rs : List Route). Staged (plan_of s.height s.width rs) c.of-stages.result) c.deref.ensures.value
     (c.of-stages.ensures s.height s.width) in
@@ -81,9 +77,8 @@ returns g c =
     let few = few_slots s.height s.width (s.tall, s.wide) in
     let items = vec_items c.in_ok-routes.routes in
     let same = c.in_ok-routes.ensures.items_if_clones_equal (λ x y e. e) in
-    let long : length items ≡ n = ap length same ∙ simp length-take (omega (arith, few)) in
-    let all : AllRest s.height s.width v n items =
-    subst (AllRest s.height s.width v n) (sym same) (taken_rest s.height s.width v n _ _ c.slots.ensures (MatchOption-at_some _ _ _ c.in_ok-resting.ensures.ok_part c.rest_all.ensures)) in
+    let long : length items ≡ n = ap length same ∙ c.rest_all.auto.routes ∙ simp length-take (omega (arith, few)) in
+    let all : AllRest s.height s.width v n items = subst (AllRest s.height s.width v n) (sym same) c.in_ok-rest_all.ensures in
     let staged : Staged (plan_of s.height s.width items) c.of-stages.result =
     subst (λ (rs : List Route). Staged (plan_of s.height s.width rs) c.of-stages.result) c.deref.ensures.value
     (c.of-stages.ensures s.height s.width) in

@@ -9,7 +9,7 @@ returns-in-Ok-clause-fixed c = script_is_fixed
 
 pub returns-in-Err-clause-script : goal.returns-in-Err-clause-script
 returns-in-Err-clause-script c =
-    let line = c.make_refused_line.ensures ∙ ap refused_line_bytes c.number.ensures in
+    let line = c.refusal_text.ensures ∙ ap refused_line_bytes c.number.ensures in
     subst (λ (text : List ℕ). ScriptOf c.args.bytes.now text) (sym line) c.in-Err.ensures
 
 pub returns-in-Err-clause-fixed : goal.returns-in-Err-clause-fixed
