@@ -23,17 +23,16 @@ fn write_cells(number: u32, n: usize, cells: &mut [u8]) {
     }
 }
 
-// The list of right members of the given number: its digits in base n.
-fn list(number: usize, n: usize) -> [usize; MOST]
+// The list of right members of the given number: its digits in base n. It is lent, and not answered, since brute force
+// makes one after another.
+fn write_list(number: usize, n: usize, rights: &mut [usize])
     requires { 0 < n }
 {
-    let mut rights = [0; MOST];
     let mut rest = number;
-    for right in rights[..n.min(MOST)].iter_mut().rev() {
+    for right in rights.iter_mut().rev() {
         *right = rest % n;
         rest /= n;
     }
-    rights
 }
 
 // Whether the left members have right members of their own that they allow.
@@ -49,10 +48,12 @@ fn brute(cells: &[u8], n: usize) -> Option<[usize; MOST]>
 {
     let lists = [1usize, 4, 27, 256];
     let count = lists.get(n - 1).copied().unwrap_or(0);
+    let mut list = [0; MOST];
+    let rights = &mut list[..n.min(MOST)];
     for number in 0..count {
-        let rights = list(number, n);
-        if is_perfect(cells, n, &rights[..n.min(MOST)]) {
-            return Some(rights);
+        write_list(number, n, rights);
+        if is_perfect(cells, n, rights) {
+            return Some(list);
         }
     }
     None
