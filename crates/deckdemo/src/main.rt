@@ -25,7 +25,7 @@ fn mark<D: Deck>(deck: &D, square: Square) -> char {
 
 fn show<D: Deck>(rt: &HostRuntime, deck: &D) -> anyhow::Result<()> {
     for row in 0..deck.rows() {
-        // mark by mark, so that showing a deck asks for no memory
+        // Kept as it is: collected into a text, each row would ask for memory.
         for column in 0..deck.columns() {
             rt.print(mark(deck, Square { row, column }))?;
         }
