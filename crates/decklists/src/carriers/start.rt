@@ -19,7 +19,7 @@ use grid::slot::Slot;
 use grid::square::Square;
 use std::alloc::{AllocError, Global};
 
-// The carriers of one row, each at rest in the bay of its place among them.
+// The carriers of one row: carrier b of them at rest in bay b.
 fn place_row(row: u8, laying: Laying, carriers: &mut [Carrier])
     requires { length carriers.old ≤ 256 }
     ensures { (b : ℕ) → b < length carriers.old → slice_index_or carriers.new b nobody ≡ resting_in laying (slot row b) }
@@ -36,8 +36,8 @@ fn place_row(row: u8, laying: Laying, carriers: &mut [Carrier])
     }
 }
 
-// Carrier s on slot s, all at rest. Row by row, since a division for each slot takes longer than all else here.
-// Kept as it is: of what is written through `chunks_mut` a proof knows nothing.
+// Carrier s on slot s, all at rest. Row by row, since a division for each slot takes longer than to place it.
+// Kept as it is: of what is written through `chunks_mut` a proof knows no element.
 fn place_rows(sides: Sides, laying: Laying, carriers: &mut [Carrier])
     requires { length carriers.old ≡ slot_count sides.height sides.width }
     ensures { Started laying sides.height sides.width carriers.new }
@@ -48,7 +48,7 @@ fn place_rows(sides: Sides, laying: Laying, carriers: &mut [Carrier])
     }
 }
 
-// All carriers where they start. Written in place: one that is pushed is copied by way of the stack first, and the
+// All carriers where they start. Written in place: of one that is pushed the padding is copied by way of the stack, and the
 // processor waits for it.
 fn place_all(heap: Global, sides: Sides, laying: Laying) -> Result<Vec<Carrier>, AllocError>
     ensures { IfOk result (λ v. Started laying sides.height sides.width v.items) }
